@@ -1,0 +1,5 @@
+-- What must hold, to be read against the scope paper: fixed-point values and ranges, tapes, drawings, pictures and their files.
+pub mod Values
+pub mod Tapes
+pub mod Drawings
+pub mod Pictures
