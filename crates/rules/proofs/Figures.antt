@@ -1,0 +1,103 @@
+-- The figures that the scope paper marks to be proved (★), and some of its worded rules at numbers, as rows of one list:
+-- what a definition gives, and what the paper says.
+use mathlib.Core.Path.{_≡_, refl}
+use mathlib.Core.List.{List, [], _∷_, _++_, map}
+use lib.IntN.{ℤ, pos, negsuc, negℤ}
+use Prim.Native.Nat.{ℕ}
+use Rattle.rules.specs.Values.{pick, smaller, larger, sum, difference, product, square, rootFrom, rootOf, Clause, Range, range, Box, holdsZero, absoluteR, squareR, rootR, productR, sumR, differenceR, negR, smallerR, largerR, unaryRange, binaryRange, rangeOf, sideBelow, sideAbove, choiceOf}
+use Rattle.rules.specs.Tapes.{Tape, noRange, choicesFrom, reads, isIn, without, onClause, shortFrom, lastOut, shortened, listOf}
+
+-- A row of numbers: a range is its two ends, a tape is its list.
+pub record Row : Type 0 where
+  pub given : List ℤ
+  pub said : List ℤ
+
+abbrev pub number : ℤ → ℤ → Row
+number z w = record { given = z ∷ []; said = w ∷ [] }
+
+abbrev pub interval : Range → ℤ → ℤ → Row
+interval r l h = record { given = r .low ∷ (r .high ∷ []); said = l ∷ (h ∷ []) }
+
+abbrev pub choice : ℕ → ℕ → Row
+choice h k = record { given = pos h ∷ []; said = pos k ∷ [] }
+
+abbrev pub clause : ℕ → ℕ → ℕ → ℕ → ℤ → Clause
+clause o d l r c = record { opcode = o; out = d; left = l; right = r; constant = c }
+
+abbrev pub tape : Tape → List Clause → Row
+tape t cs = record { given = listOf (t .clauses); said = listOf cs }
+
+abbrev pub minus : ℕ → ℤ
+minus n = negℤ (pos n)
+
+abbrev pub over : ℤ → ℤ → Box
+over a b = record { xs = range a b; ys = noRange; zs = noRange }
+
+-- x in slot 0; constant 0 in 1; minimum of 0, 1 into 1; constant −10 in 2; minimum of 2, 1 into 0.
+abbrev pub five : Tape
+five =
+    record {
+      slots = 3;
+      clauses = clause 1 0 0 0 (pos 0)
+          ∷ (clause 0 1 0 0 (pos 0)
+          ∷ (clause 12 1 0 1 (pos 0) ∷ (clause 0 2 0 0 (minus 10) ∷ (clause 12 0 2 1 (pos 0) ∷ []))));
+    }
+
+-- x in slot 0; constant 0 in 1; minimum of 0, 1 into 1; add of 1, 0 into 1. Over x 5..9 the minimum's choice is its own
+-- slot, and the add reads the slot that it writes.
+abbrev pub four : Tape
+four =
+    record {
+      slots = 2;
+      clauses = clause 1 0 0 0 (pos 0)
+          ∷ (clause 0 1 0 0 (pos 0) ∷ (clause 12 1 0 1 (pos 0) ∷ (clause 9 1 1 0 (pos 0) ∷ [])));
+    }
+
+-- The marked figures, in the paper's order.
+abbrev pub starred : List Row
+starred =
+    number (product (minus 1) (pos 1)) (minus 1)
+    ∷ (number (product (pos 1) (pos 1)) (pos 0)
+    ∷ (number (product (pos 2147483647) (pos 2147483647)) (pos 2147483647)
+    ∷ (number (product (minus 2147483647) (pos 2147483647)) (minus 2147483647)
+    ∷ (number (sum (pos 2147483647) (pos 1)) (pos 2147483647)
+    ∷ (number (difference (minus 2147483647) (pos 1)) (minus 2147483647)
+    ∷ (number (rootOf (minus 5)) (pos 0)
+    ∷ (number (rootOf (pos 1)) (pos 256)
+    ∷ (number (rootOf (pos 2)) (pos 362)
+    ∷ (number (rootOf (pos 65536)) (pos 65536)
+    ∷ (number (square (pos 255)) (pos 0)
+    ∷ (number (square (pos 256)) (pos 1)
+    ∷ (number (square (minus 98304)) (pos 147456)
+    ∷ (interval (productR (range (minus 1) (pos 1)) (range (minus 1) (pos 1))) (minus 1) (pos 0)
+    ∷ (choice (choiceOf 12 (range (pos 0) (pos 4)) (range (pos 5) (pos 9))) 1
+    ∷ (choice (choiceOf 12 (range (pos 0) (pos 5)) (range (pos 5) (pos 9))) 0
+    ∷ (tape (shortened five (over (pos 5) (pos 9))) (clause 0 2 0 0 (minus 10) ∷ (clause 4 0 2 0 (pos 0) ∷ []))
+    ∷ []))))))))))))))))
+
+-- Rules that the paper words and gives no figure for.
+abbrev pub worded : List Row
+worded =
+    interval (absoluteR (range (minus 3) (pos 5))) (pos 0) (pos 5)
+    ∷ (interval (absoluteR (range (minus 5) (minus 3))) (pos 3) (pos 5)
+    ∷ (interval (squareR (range (minus 512) (pos 256))) (pos 0) (pos 4)
+    ∷ (interval (rootR (range (minus 5) (pos 2))) (pos 0) (pos 362)
+    ∷ (interval (negR (range (minus 1) (pos 7))) (minus 7) (pos 1)
+    ∷ (interval (sumR (range (pos 1) (pos 2)) (range (pos 10) (pos 20))) (pos 11) (pos 22)
+    ∷ (interval (differenceR (range (pos 1) (pos 2)) (range (pos 10) (pos 20))) (minus 19) (minus 8)
+    ∷ (interval (smallerR (range (pos 1) (pos 9)) (range (pos 2) (pos 3))) (pos 1) (pos 3)
+    ∷ (interval (largerR (range (pos 1) (pos 9)) (range (pos 2) (pos 3))) (pos 2) (pos 9)
+    ∷ (choice (choiceOf 12 (range (pos 5) (pos 9)) (range (pos 0) (pos 4))) 2
+    ∷ (choice (choiceOf 13 (range (pos 5) (pos 9)) (range (pos 0) (pos 4))) 1
+    ∷ (choice (choiceOf 13 (range (pos 0) (pos 4)) (range (pos 5) (pos 9))) 2
+    ∷ (choice (choiceOf 9 (range (pos 0) (pos 4)) (range (pos 5) (pos 9))) 0
+    ∷ (tape (shortened four (over (pos 5) (pos 9)))
+    (clause 1 0 0 0 (pos 0) ∷ (clause 0 1 0 0 (pos 0) ∷ (clause 9 1 1 0 (pos 0) ∷ [])))
+    ∷ [])))))))))))))
+
+abbrev pub rows : List Row
+rows = starred ++ worded
+
+pub figures : map (λ r. r .given) rows ≡ map (λ r. r .said) rows
+unfolding smaller larger sum difference product square rootFrom rootOf holdsZero absoluteR squareR rootR productR sumR differenceR negR smallerR largerR unaryRange binaryRange rangeOf sideBelow sideAbove choiceOf choicesFrom reads isIn without onClause shortFrom lastOut shortened listOf
+figures = refl
