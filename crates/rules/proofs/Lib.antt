@@ -12,3 +12,10 @@ pub mod ShortAccepted
 pub mod Visit
 pub mod Regions
 pub mod Bound
+pub mod Grids
+pub mod Raised
+pub mod Pixels
+pub mod Samples
+pub mod Columns
+pub mod Walk
+pub mod Tiles

@@ -1,0 +1,130 @@
+-- The full drawing's heights are the least that are above every sample with material.
+use mathlib.Core.Path.{_≡_, refl, ap, sym, _∙_}
+use mathlib.Core.Bool.{Bool, true, false, false≢true}
+use Prim.Native.Nat.{ℕ, zero, suc, _+_, _*_, _/_, _%_, _≤_, _<_}
+use native.Mathlib.Omega.{arith}
+use native.Mathlib.Nat.{mul-comm, div-add-mod', mod-lt, div-lt-iff-lt-mul}
+use lib.ListN.{length, getD, replicate, length-append, length-replicate, getD-replicate, List·getD-append}
+use lib.Seq.{getD-append-add}
+use Rattle.rules.specs.Tapes.{Tape, material}
+use Rattle.rules.specs.Drawings.{Grid, sampleAt, layers, columnFrom, rowFrom, rowsFrom, drawn, whole}
+use Rattle.rules.proofs.Regions.{Fits}
+use Rattle.rules.proofs.Raised.{Raised}
+use Rattle.rules.proofs.Samples.{Hit}
+
+-- One column: the greatest layer with material.
+column-here : (n : ℕ) (t : Tape) (g : Grid) (x y : ℕ) → material t (sampleAt g x y n) ≡ true
+    → columnFrom (suc n) t g x y ≡ suc n
+unfolding columnFrom
+column-here n t g x y e = rw (e, columnFrom)
+
+column-below : (n : ℕ) (t : Tape) (g : Grid) (x y : ℕ) → material t (sampleAt g x y n) ≡ false
+    → columnFrom (suc n) t g x y ≡ columnFrom n t g x y
+unfolding columnFrom
+column-below n t g x y e = rw (e, columnFrom)
+
+column-above : (n : ℕ) (t : Tape) (g : Grid) (x y z : ℕ) → z < n → material t (sampleAt g x y z) ≡ true
+    → z < columnFrom n t g x y
+column-above zero t g x y z l m = absurd (omega arith)
+column-above (suc n) t g x y z l m = go (material t (sampleAt g x y n)) refl (λ k. column-above n t g x y z k m)
+  where
+    other : material t (sampleAt g x y n) ≡ false → z ≡ n → ⊥
+    other e d = false≢true (sym e ∙ (rw d at m))
+
+    go : (b : Bool) → material t (sampleAt g x y n) ≡ b → (z < n → z < columnFrom n t g x y)
+        → z < columnFrom (suc n) t g x y
+    go true e f = omega (arith, column-here n t g x y e)
+    go false e f = let o : z ≡ n → ⊥ = other e in rw (column-below n t g x y e) (f (omega arith))
+
+column-least : (n : ℕ) (t : Tape) (g : Grid) (x y b : ℕ)
+    → ((z : ℕ) → z < n → material t (sampleAt g x y z) ≡ true → z < b) → columnFrom n t g x y ≤ b
+unfolding columnFrom
+column-least zero t g x y b f = omega arith
+column-least (suc n) t g x y b f =
+    go (material t (sampleAt g x y n)) refl (column-least n t g x y b (λ z l m. f z (omega arith) m))
+  where
+    go : (c : Bool) → material t (sampleAt g x y n) ≡ c → columnFrom n t g x y ≤ b → columnFrom (suc n) t g x y ≤ b
+    go true e h = omega (arith, column-here n t g x y e, f n (omega arith) e)
+    go false e h = omega (arith, column-below n t g x y e)
+
+-- Rows of columns.
+module _ (t : Tape) (g : Grid) where
+  row-length : (n i j : ℕ) → length (rowFrom n i j t g) ≡ n
+  unfolding rowFrom
+  row-length zero i j = refl
+  row-length (suc n) i j = ap suc (row-length n (suc i) j)
+
+  row-at : (n i j x k : ℕ) → x < n → k ≡ i + x → getD (rowFrom n i j t g) x 0 ≡ columnFrom (layers g) t g k j
+  unfolding rowFrom
+  row-at zero i j x k l e = absurd (omega arith)
+  row-at (suc n) i j zero k l e = let d : k ≡ i = omega arith in rw d
+  row-at (suc n) i j (suc x) k l e = row-at n (suc i) j x k (omega arith) (omega arith)
+
+  rows-length : (n j : ℕ) → length (rowsFrom n j t g) ≡ n * g .width
+  unfolding rowsFrom
+  rows-length zero j = omega arith
+  rows-length (suc n) j =
+      omega (arith, length-append (rowFrom (g .width) 0 j t g) (rowsFrom n (suc j) t g), row-length (g .width) 0 j, rows-length n (suc j))
+
+  rows-at : (n j p x y k : ℕ) → x < g .width → y < n → p ≡ y * g .width + x → k ≡ j + y
+      → getD (rowsFrom n j t g) p 0 ≡ columnFrom (layers g) t g x k
+  unfolding rowsFrom
+  rows-at zero j p x y k l m e d = absurd (omega arith)
+  rows-at (suc n) j p x zero k l m e d =
+      let a : p ≡ x = omega arith in
+      let b : k ≡ j = omega arith in
+      rw (a, b)
+      (List·getD-append (rowFrom (g .width) 0 j t g) (rowsFrom n (suc j) t g) 0 x (omega (arith, row-length (g .width) 0 j))
+      ∙ row-at (g .width) 0 j x x l (omega arith))
+  rows-at (suc n) j p x (suc y) k l m e d =
+      let a : p ≡ length (rowFrom (g .width) 0 j t g) + (y * g .width + x) = omega (arith, row-length (g .width) 0 j) in
+      rw a
+      (getD-append-add (rowFrom (g .width) 0 j t g) (rowsFrom n (suc j) t g) (y * g .width + x) 0
+      ∙ rows-at n (suc j) (y * g .width + x) x y k l (omega arith) refl (omega arith))
+
+-- Every place of a picture is a pixel's.
+record Spot (w n p : ℕ) : Type 0 where
+  x : ℕ
+  y : ℕ
+  place : p ≡ y * w + x
+  x-in : x < w
+  y-in : y < n
+
+positive : (w n p : ℕ) → p < w * n → 0 < w
+positive zero n p l = absurd (omega arith)
+positive (suc w) n p l = omega arith
+
+spot : (w n p : ℕ) → p < w * n → Spot w n p
+spot w n p l =
+    record {
+      x = p % w;
+      y = p / w;
+      place = sym (div-add-mod' p w);
+      x-in = mod-lt p (positive w n p l);
+      y-in = div-lt-iff-lt-mul (positive w n p l) .1 (rw (mul-comm w n) at l);
+    }
+
+pub drawn-raised : (t : Tape) (g : Grid) → Fits g → Raised (Hit t g whole) (replicate (g .width * g .height) 0) (drawn t g)
+unfolding drawn
+drawn-raised t g f =
+    record {
+      size = omega (arith, rows-length t g (g .height) 0, zeros, mul-comm (g .width) (g .height));
+      from = λ p l. omega (arith, getD-replicate {A = ℕ} (g .width * g .height) p 0 0 (omega (arith, zeros)));
+      above = λ p z l i.
+          rw (pixel p (i .x) (i .y) (i .in-grid .x-in) (i .in-grid .y-in) (i .place))
+          (column-above (layers g) t g (i .x) (i .y) z (i .in-grid .z-in) (i .has));
+      least = λ p b l e k. by-spot p b k (spot (g .width) (g .height) p (omega (arith, zeros)));
+    }
+  where
+    zeros : length {A = ℕ} (replicate (g .width * g .height) 0) ≡ g .width * g .height
+    zeros = length-replicate (g .width * g .height) 0
+
+    pixel : (p x y : ℕ) → x < g .width → y < g .height → p ≡ y * g .width + x
+        → getD (drawn t g) p 0 ≡ columnFrom (layers g) t g x y
+    pixel p x y l m e = rows-at t g (g .height) 0 p x y y l m e (omega arith)
+
+    by-spot : (p b : ℕ) → ((z : ℕ) → Hit t g whole p z → z < b) → Spot (g .width) (g .height) p → getD (drawn t g) p 0 ≤ b
+    by-spot p b k s =
+        rw (pixel p (s .x) (s .y) (s .x-in) (s .y-in) (s .place))
+        (column-least (layers g) t g (s .x) (s .y) b (λ z l m.
+        k z (record { x = s .x; y = s .y; place = s .place; inside = omega arith; in-grid = omega arith; has = m })))
