@@ -7,8 +7,8 @@ use native.Mathlib.Nat.{le-trans, mul-assoc, mul-le-mul-left, mul-le-mul-right}
 use native.Mathlib.Omega.{arith}
 use lib.ListN.{length}
 use Rattle.rules.specs.Values.{pick}
-use Rattle.rules.specs.Tapes.{Tape, shortened}
-use Rattle.rules.specs.Drawings.{Grid, solid, Region, boxOf, State, over, children, fold, counted, visit, sides, partOf}
+use Rattle.rules.specs.Tapes.{Tape}
+use Rattle.rules.specs.Drawings.{Grid, solid, Region, State, over, children, fold, counted, shortTape, visit, sides, flatBound, solidBound, partOf}
 use Rattle.rules.proofs.Short.{short-length}
 use Rattle.rules.proofs.Regions.{Placed, Each, Divides, children-placed, children-flat, children-solid, Steps, steps-flat, steps-solid}
 use Rattle.rules.proofs.Visit.{visit-by-case, sample-by-case}
@@ -50,7 +50,7 @@ visit-most [] a d t g r s e =
 visit-most (n ∷ ns) a d t g r s e =
     let k = most (solid g) a n in
     let c = runs (solid g) n ns in
-    let u = shortened t (boxOf g r) in
+    let u = shortTape t g r in
     let v = d .0 r e in
     visit-by-case (λ x. x .clauses ≤ s .clauses + suc (k * c) * length (t .clauses)) n ns t g r s
     (λ h. omega arith) (λ h. omega arith) (λ h. omega arith)
@@ -60,7 +60,7 @@ visit-most (n ∷ ns) a d t g r s e =
           (λ q y p. visit-most ns n (d .1) u g q y (p .side)) (children g r n) (children-placed g r n (over a n) v)
           (counted t s),
       product-most (length (children g r n)) k c (length (u .clauses)) (length (t .clauses))
-          (children-most g r a n v) (short-length t (boxOf g r)),
+          (children-most g r a n v) (short-length t _),
     ))
 
 -- The part of a 64-tile, whatever the state before it.
@@ -71,13 +71,13 @@ part-most t g r s b ns k h d e =
     rw (h, ← k) (omega (arith, visit-most ns 64 d t g r s e))
 
 pub part-flat : (t : Tape) (g : Grid) (r : Region) (s : State) → solid g ≡ false → r .long ≡ 64
-    → partOf t g r s ≤ 4161 * length (t .clauses)
+    → partOf t g r s ≤ flatBound * length (t .clauses)
 unfolding sides
 part-flat t g r s k e =
     part-most t g r s false (8 ∷ (1 ∷ [])) k (rw k) steps-flat e
 
 pub part-solid : (t : Tape) (g : Grid) (r : Region) (s : State) → solid g ≡ true → r .long ≡ 64
-    → partOf t g r s ≤ 266305 * length (t .clauses)
+    → partOf t g r s ≤ solidBound * length (t .clauses)
 unfolding sides
 part-solid t g r s k e =
     part-most t g r s true (16 ∷ (4 ∷ (1 ∷ []))) k (rw k) steps-solid e

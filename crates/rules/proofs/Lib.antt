@@ -19,3 +19,10 @@ pub mod Samples
 pub mod Columns
 pub mod Walk
 pub mod Tiles
+pub mod Reading
+pub mod Bytes
+pub mod RestatedValues
+pub mod RestatedTapes
+pub mod RestatedDrawings
+pub mod RestatedPictures
+pub mod Demands

@@ -5,8 +5,8 @@ use mathlib.Core.List.{List}
 use Prim.Native.Nat.{ℕ, _+_, _-_, _*_, _≤_, _<_}
 use native.Mathlib.Omega.{arith}
 use Rattle.rules.specs.Values.{pick, isNeg}
-use Rattle.rules.specs.Tapes.{Tape, valueAt, material, rangeOver, shortened}
-use Rattle.rules.specs.Drawings.{Grid, solid, sampleAt, Region, lesser, pastZ, boxOf, hidden, filled}
+use Rattle.rules.specs.Tapes.{Tape, valueAt, material, rangeOver}
+use Rattle.rules.specs.Drawings.{Grid, solid, sampleAt, Region, lesser, pastZ, boxOf, hidden, filled, shortTape}
 use Rattle.rules.proofs.Order.{Holds, under-negative, above-natural}
 use Rattle.rules.proofs.Runs.{Good, in-range}
 use Rattle.rules.proofs.Short.{short-value}
@@ -104,7 +104,7 @@ module _ {t : Tape} (good : Good t) {g : Grid} (a : Sound g) (r : Region) where
   low-empty e = record { none = λ x y z i k. above-natural (holds x y z i k .above) e }
 
   pub short-material : (x y z : ℕ) → Inside r x y z → InGrid g x y z
-      → material (shortened t (boxOf g r)) (sampleAt g x y z) ≡ material t (sampleAt g x y z)
+      → material (shortTape t g r) (sampleAt g x y z) ≡ material t (sampleAt g x y z)
   unfolding material
   short-material x y z i k = ap isNeg (short-value t good (boxOf g r) (sampleAt g x y z) (box-holds a r x y z i k))
 

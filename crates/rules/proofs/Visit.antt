@@ -4,8 +4,8 @@ use mathlib.Core.Bool.{Bool, true, false}
 use mathlib.Core.List.{List, [], _∷_}
 use Prim.Native.Nat.{ℕ}
 use Rattle.rules.specs.Values.{isNeg, Range}
-use Rattle.rules.specs.Tapes.{Tape, material, rangeOver, shortened}
-use Rattle.rules.specs.Drawings.{Grid, sampleAt, Region, boxOf, State, hidden, children, fold, counted, fillIn, onSample, visit}
+use Rattle.rules.specs.Tapes.{Tape, material, rangeOver}
+use Rattle.rules.specs.Drawings.{Grid, sampleAt, Region, boxOf, State, hidden, children, fold, counted, fillIn, shortTape, onSample, visit}
 
 pub visit-hidden : (ns : List ℕ) (t : Tape) (g : Grid) (r : Region) (s : State) → hidden g r (s .heights) ≡ true
     → visit ns t g r s ≡ s
@@ -27,7 +27,7 @@ visit-empty n ns t g r s e h l = rw (e, h, l, visit)
 pub visit-cut : (n : ℕ) (ns : List ℕ) (t : Tape) (g : Grid) (r : Region) (s : State)
     → hidden g r (s .heights) ≡ false → isNeg (rangeOver t (boxOf g r) .high) ≡ false
     → isNeg (rangeOver t (boxOf g r) .low) ≡ true
-    → visit (n ∷ ns) t g r s ≡ fold (λ q y. visit ns (shortened t (boxOf g r)) g q y) (children g r n) (counted t s)
+    → visit (n ∷ ns) t g r s ≡ fold (λ q y. visit ns (shortTape t g r) g q y) (children g r n) (counted t s)
 unfolding visit
 visit-cut n ns t g r s e h l = rw (e, h, l, visit)
 
@@ -52,7 +52,7 @@ pub visit-by-case : (P : State → Type 0) (n : ℕ) (ns : List ℕ) (t : Tape) 
     → (hidden g r (s .heights) ≡ true → P s)
     → (isNeg (rangeOver t (boxOf g r) .high) ≡ true → P (fillIn g r (counted t s)))
     → (isNeg (rangeOver t (boxOf g r) .low) ≡ false → P (counted t s))
-    → P (fold (λ q y. visit ns (shortened t (boxOf g r)) g q y) (children g r n) (counted t s))
+    → P (fold (λ q y. visit ns (shortTape t g r) g q y) (children g r n) (counted t s))
     → P (visit (n ∷ ns) t g r s)
 visit-by-case P n ns t g r s hid full empty cut =
     by-case (hidden g r (s .heights)) refl (isNeg (rangeOver t (boxOf g r) .high)) refl

@@ -9,8 +9,8 @@ use native.Mathlib.Omega.{arith}
 use native.Mathlib.Nat.{mul-le-mul}
 use lib.ListN.{length, replicate}
 use Rattle.rules.specs.Values.{pick}
-use Rattle.rules.specs.Tapes.{Tape, material, shortened}
-use Rattle.rules.specs.Drawings.{Grid, solid, sampleAt, gridFault, drawn, Region, boxOf, State, state, over, children, fold, counted, visit, sides, whole, walked}
+use Rattle.rules.specs.Tapes.{Tape, material}
+use Rattle.rules.specs.Drawings.{Grid, solid, sampleAt, gridFault, drawn, Region, State, state, over, children, fold, counted, shortTape, visit, sides, whole, walked}
 use Rattle.rules.proofs.Runs.{Good}
 use Rattle.rules.proofs.Short.{short-good}
 use Rattle.rules.proofs.Regions.{Inside, InGrid, Begins, Placed, Each, Some, here, there, each-map, Divides, children-placed, children-cover, inside-child, Steps, steps-sides, tiles-placed, tiles-cover}
@@ -101,7 +101,7 @@ visit-raised [] a d o g sound t good r b e s =
     (λ h. fill-full (one-full t g r (e ∙ o) h) b (omega arith) (s .heights))
     (λ h. skip-empty (one-empty t g r (e ∙ o) h) (s .heights))
 visit-raised (n ∷ ns) a d o g sound t good r b e s =
-    let u = shortened t (boxOf g r) in
+    let u = shortTape t g r in
     let l = over a n in
     let v = d .0 r e in
     visit-by-case (λ x. Raised (Hit t g r) (s .heights) (x .heights)) n ns t g r s (skip-hidden (s .heights))
@@ -109,7 +109,7 @@ visit-raised (n ∷ ns) a d o g sound t good r b e s =
     (λ h. skip-empty (low-empty good sound r h) (s .heights))
     (parts-raised t u g r n (children g r n) (children-placed g r n l v) (children-cover g r n l v)
     (short-material good sound r) (λ q y. visit ns u g q y)
-    (λ q p y. visit-raised ns n (d .1) o g sound u (short-good t good (boxOf g r)) q (p .begins) (p .side) y)
+    (λ q p y. visit-raised ns n (d .1) o g sound u (short-good t good _) q (p .begins) (p .side) y)
     (counted t s))
 
 -- Tiles of side 64 that cover the grid, in any order.

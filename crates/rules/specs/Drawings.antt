@@ -194,6 +194,10 @@ counted t s = state (s .heights) (s .clauses + length (t .clauses))
 abbrev pub fillIn : Grid → Region → State → State
 fillIn g r s = state (filled g r (s .heights)) (s .clauses)
 
+-- The region's short tape: "its children are run with that one and no other".
+abbrev pub shortTape : Tape → Grid → Region → Tape
+shortTape t g r = shortened t (boxOf g r)
+
 -- "Side 1 is run on values with its parent's short tape; a value below 0 fills, any other skips."
 unfoldable pub onSample : Tape → Grid → Region → State → State
 onSample t g r s =
@@ -211,7 +215,7 @@ visit (n ∷ ns) t g r s =
           elim (isNeg (x .high)) [
             | true ↦ fillIn g r c
             | false ↦ elim (isNeg (x .low)) [
-              | true ↦ fold (λ q y. visit ns (shortened t (boxOf g r)) g q y) (children g r n) c
+              | true ↦ fold (λ q y. visit ns (shortTape t g r) g q y) (children g r n) c
               | false ↦ c
             ]
           ])
@@ -230,7 +234,14 @@ unfoldable pub walked : Tape → Grid → State
 walked t g =
     fold (λ r s. visit (sides g) t g r s) (children g whole 64) (state (replicate (g .width * g .height) 0) 0)
 
--- "A 64-tile is a region of side 64; its part of the sum is that of itself and all regions inside it".
+-- "A 64-tile is a region of side 64; its part of the sum is that of itself and all regions inside it, and is at most
+-- 4,161 (1 + 64 + 4,096) flat or 266,305 (1 + 64 + 4,096 + 262,144) solid times the clauses of the whole tape."
+abbrev pub flatBound : ℕ
+flatBound = 4161
+
+abbrev pub solidBound : ℕ
+solidBound = 266305
+
 unfoldable pub partOf : Tape → Grid → Region → State → ℕ
 partOf t g r s = visit (sides g) t g r s .clauses - s .clauses
 
@@ -265,9 +276,9 @@ pub record Tiles (t : Tape) : Type 0 where
   pub in-range : (b : Box) (s : Sample) → inBox s b ≡ true → boxOk b ≡ true
       → within (valueAt t s) (rangeOver t b) ≡ true
   pub part-flat : (g : Grid) (r : Region) (s : State) → solid g ≡ false → gridFault false g ≡ 0 → r .long ≡ 64
-      → partOf t g r s ≤ 4161 * length (t .clauses)
+      → partOf t g r s ≤ flatBound * length (t .clauses)
   pub part-solid : (g : Grid) (r : Region) (s : State) → solid g ≡ true → gridFault true g ≡ 0 → r .long ≡ 64
-      → partOf t g r s ≤ 266305 * length (t .clauses)
+      → partOf t g r s ≤ solidBound * length (t .clauses)
 
 abbrev pub Demand-3 : Type 0
 Demand-3 = (b : List ℕ) → readTape b .number ≡ 0 → Tiles (readTape b .tape)
