@@ -1,0 +1,2 @@
+-- What the proofs about roots share: lemmas on plain numbers.
+mod Squares
