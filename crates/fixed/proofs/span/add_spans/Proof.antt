@@ -1,0 +1,27 @@
+use borrow.Author.Needs.{needs}
+use Rattle.rules.specs.Values.{sum, sumR}
+use Rattle.fixed.proofs.Spans.{fit, ends-of-two}
+use Rattle.fixed.proofs.span.add_spans.Statement.{statement}
+use Rattle.fixed.proofs.span.add_spans.Tie as tie
+
+add-requires : tie.Need-add-requires
+add-requires c κs = search needs
+
+add-requires-2 : tie.Need-add-requires-2
+add-requires-2 c κs = search needs
+
+returns : tie.Need-returns
+unfolding sumR
+returns c =
+    let before = c .before .before .before in
+    let args = before .before .before .before .args in
+    let a = args .a in
+    let b = args .b in
+    let f = fit {s = a} (before .before .before .struct-told .given) in
+    let g = fit {s = b} (before .before .struct-told2 .given) in
+    let l = before .add in
+    let h = c .add2 in
+    ends-of-two (l .result) (h .result) (l .ok) (h .ok) sum (a .low) (b .low) (a .high) (b .high) (f .low) (g .low) (f .high) (g .high) (l .ensures) (h .ensures)
+
+pub add-spans-spec : {M : Type 1} → statement M
+add-spans-spec = tie.close (tie.spec add-requires add-requires-2 returns)

@@ -1,0 +1,34 @@
+use mathlib.Core.Path.{ap, _∙_}
+use lib.IntN.{_-ℤ_}
+use borrow.Author.Needs.{needs}
+use mir.Syntax.{w32}
+use Rattle.rules.specs.Values.{clamped, difference}
+use Rattle.fixed.proofs.Words.{back, read-fits, wide-fits, wide-op, difference-fits}
+use Rattle.fixed.proofs.value.subtract.Statement.{statement}
+use Rattle.fixed.proofs.value.subtract.Tie as tie
+
+cast-clamp : tie.Need-cast-clamp
+cast-clamp c = read-fits (c .args .a) (c .fits .a)
+
+cast-clamp-2 : tie.Need-cast-clamp-2
+cast-clamp-2 c = read-fits (c .args .b) (c .fits .b)
+
+sub-clamp : tie.Need-sub-clamp
+sub-clamp c =
+    let a = c .args in
+    let f = c .fits in
+    wide-fits _-ℤ_ (a .a) (a .b) (f .a) (f .b) (difference-fits (a .a) (a .b) (f .a) (f .b))
+
+clamp-requires : tie.Need-clamp-requires
+clamp-requires c κs = search needs
+
+returns : tie.Need-returns
+unfolding difference
+returns c =
+    let a = c .before .args in
+    let f = c .before .fits in
+    let e = wide-op _-ℤ_ (a .a) (a .b) (f .a) (f .b) (difference-fits (a .a) (a .b) (f .a) (f .b)) in
+    back w32 (c .clamp .result) (c .clamp .ok) (c .clamp .ensures ∙ ap clamped e)
+
+pub subtract-spec : {M : Type 1} → statement M
+subtract-spec = tie.close (tie.spec cast-clamp cast-clamp-2 sub-clamp clamp-requires returns)

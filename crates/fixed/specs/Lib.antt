@@ -1,0 +1,2 @@
+-- The declared structs as the records of the rules.
+pub mod Shapes
