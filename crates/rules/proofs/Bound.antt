@@ -37,6 +37,26 @@ unfolding fold Each
 fold-most f P m h [] p s = omega arith
 fold-most f P m h (q ∷ qs) p s = omega (arith, h q s (p .0), fold-most f P m h qs (p .1) (f q s))
 
+-- A visit never takes from the count, so that a tile's part is what the visit adds to it.
+fold-adds : (f : Region → State → State) → ((q : Region) (s : State) → s .clauses ≤ f q s .clauses)
+    → (qs : List Region) (s : State) → s .clauses ≤ fold f qs s .clauses
+unfolding fold
+fold-adds f h [] s = omega arith
+fold-adds f h (q ∷ qs) s = le-trans (h q s) (fold-adds f h qs (f q s))
+
+pub visit-adds : (ns : List ℕ) (t : Tape) (g : Grid) (r : Region) (s : State) → s .clauses ≤ visit ns t g r s .clauses
+visit-adds [] t g r s =
+    sample-by-case (λ u. s .clauses ≤ u .clauses) t g r s (λ h. omega arith) (λ h. omega arith) (λ h. omega arith)
+visit-adds (n ∷ ns) t g r s =
+    let u = shortTape t g r in
+    visit-by-case (λ x. s .clauses ≤ x .clauses) n ns t g r s (λ h. omega arith) (λ h. omega arith) (λ h. omega arith)
+    (omega (arith, fold-adds (λ q y. visit ns u g q y) (λ q y. visit-adds ns u g q y) (children g r n) (counted t s)))
+
+pub part-added : (t : Tape) (g : Grid) (r : Region) (s : State)
+    → visit (sides g) t g r s .clauses ≡ s .clauses + partOf t g r s
+unfolding partOf
+part-added t g r s = omega (arith, visit-adds (sides g) t g r s)
+
 -- At most k′ regions with c runs each, on a tape that is no longer.
 product-most : (k k′ c x y : ℕ) → k ≤ k′ → x ≤ y → k * (c * x) ≤ k′ * c * y
 product-most k k′ c x y h e =

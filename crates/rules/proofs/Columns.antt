@@ -6,46 +6,59 @@ use native.Mathlib.Omega.{arith}
 use native.Mathlib.Nat.{mul-comm, div-add-mod', mod-lt, div-lt-iff-lt-mul}
 use lib.ListN.{length, getD, replicate, length-append, length-replicate, getD-replicate, List·getD-append}
 use lib.Seq.{getD-append-add}
+use Rattle.rules.specs.Values.{pick}
 use Rattle.rules.specs.Tapes.{Tape, material}
 use Rattle.rules.specs.Drawings.{Grid, sampleAt, layers, columnFrom, rowFrom, rowsFrom, drawn, whole}
 use Rattle.rules.proofs.Regions.{Fits}
 use Rattle.rules.proofs.Raised.{Raised}
 use Rattle.rules.proofs.Samples.{Hit}
 
--- One column: the greatest layer with material.
-column-here : (n : ℕ) (t : Tape) (g : Grid) (x y : ℕ) → material t (sampleAt g x y n) ≡ true
-    → columnFrom (suc n) t g x y ≡ suc n
-unfolding columnFrom
-column-here n t g x y e = rw (e, columnFrom)
+-- 1 + the greatest of n layers from k on that has material at the pixel (x, y), or 0 if none has.
+unfoldable pub topFrom : ℕ → ℕ → Tape → Grid → ℕ → ℕ → ℕ
+topFrom k zero t g x y = 0
+topFrom k (suc n) t g x y = pick (material t (sampleAt g x y (k + n))) (suc (k + n)) (topFrom k n t g x y)
 
-column-below : (n : ℕ) (t : Tape) (g : Grid) (x y : ℕ) → material t (sampleAt g x y n) ≡ false
-    → columnFrom (suc n) t g x y ≡ columnFrom n t g x y
-unfolding columnFrom
-column-below n t g x y e = rw (e, columnFrom)
-
-column-above : (n : ℕ) (t : Tape) (g : Grid) (x y z : ℕ) → z < n → material t (sampleAt g x y z) ≡ true
-    → z < columnFrom n t g x y
-column-above zero t g x y z l m = absurd (omega arith)
-column-above (suc n) t g x y z l m = go (material t (sampleAt g x y n)) refl (λ k. column-above n t g x y z k m)
+-- It is above each of these layers with material, and no greater than whatever is.
+pub top-above : (k n : ℕ) (t : Tape) (g : Grid) (x y z : ℕ) → k ≤ z → z < k + n → material t (sampleAt g x y z) ≡ true
+    → z < topFrom k n t g x y
+unfolding topFrom
+top-above k zero t g x y z h l m = absurd (omega arith)
+top-above k (suc n) t g x y z h l m =
+    go (material t (sampleAt g x y (k + n))) refl (λ i. top-above k n t g x y z h i m)
   where
-    other : material t (sampleAt g x y n) ≡ false → z ≡ n → ⊥
+    other : material t (sampleAt g x y (k + n)) ≡ false → z ≡ k + n → ⊥
     other e d = false≢true (sym e ∙ (rw d at m))
 
-    go : (b : Bool) → material t (sampleAt g x y n) ≡ b → (z < n → z < columnFrom n t g x y)
-        → z < columnFrom (suc n) t g x y
-    go true e f = omega (arith, column-here n t g x y e)
-    go false e f = let o : z ≡ n → ⊥ = other e in rw (column-below n t g x y e) (f (omega arith))
+    go : (b : Bool) → material t (sampleAt g x y (k + n)) ≡ b → (z < k + n → z < topFrom k n t g x y)
+        → z < pick b (suc (k + n)) (topFrom k n t g x y)
+    go true e f = omega arith
+    go false e f = let o : z ≡ k + n → ⊥ = other e in f (omega arith)
 
-column-least : (n : ℕ) (t : Tape) (g : Grid) (x y b : ℕ)
-    → ((z : ℕ) → z < n → material t (sampleAt g x y z) ≡ true → z < b) → columnFrom n t g x y ≤ b
-unfolding columnFrom
-column-least zero t g x y b f = omega arith
-column-least (suc n) t g x y b f =
-    go (material t (sampleAt g x y n)) refl (column-least n t g x y b (λ z l m. f z (omega arith) m))
+pub top-least : (k n : ℕ) (t : Tape) (g : Grid) (x y b : ℕ)
+    → ((z : ℕ) → k ≤ z → z < k + n → material t (sampleAt g x y z) ≡ true → z < b) → topFrom k n t g x y ≤ b
+unfolding topFrom
+top-least k zero t g x y b f = omega arith
+top-least k (suc n) t g x y b f =
+    go (material t (sampleAt g x y (k + n))) refl (top-least k n t g x y b (λ z h l m. f z h (omega arith) m))
   where
-    go : (c : Bool) → material t (sampleAt g x y n) ≡ c → columnFrom n t g x y ≤ b → columnFrom (suc n) t g x y ≤ b
-    go true e h = omega (arith, column-here n t g x y e, f n (omega arith) e)
-    go false e h = omega (arith, column-below n t g x y e)
+    go : (c : Bool) → material t (sampleAt g x y (k + n)) ≡ c → topFrom k n t g x y ≤ b
+        → pick c (suc (k + n)) (topFrom k n t g x y) ≤ b
+    go true e h = f (k + n) (omega arith) (omega arith) e
+    go false e h = h
+
+-- The full drawing's column is that of all layers from 0 on.
+pub column-top : (n : ℕ) (t : Tape) (g : Grid) (x y : ℕ) → columnFrom n t g x y ≡ topFrom 0 n t g x y
+unfolding columnFrom topFrom
+column-top zero t g x y = refl
+column-top (suc n) t g x y = go (material t (sampleAt g x y n)) refl (column-top n t g x y)
+  where
+    first : 0 + n ≡ n
+    first = omega arith
+
+    go : (b : Bool) → material t (sampleAt g x y n) ≡ b → columnFrom n t g x y ≡ topFrom 0 n t g x y
+        → columnFrom (suc n) t g x y ≡ topFrom 0 (suc n) t g x y
+    go true e ih = rw (first, e, columnFrom)
+    go false e ih = rw (first, e, columnFrom) ih
 
 -- Rows of columns.
 module _ (t : Tape) (g : Grid) where
@@ -112,7 +125,7 @@ drawn-raised t g f =
       from = λ p l. omega (arith, getD-replicate {A = ℕ} (g .width * g .height) p 0 0 (omega (arith, zeros)));
       above = λ p z l i.
           rw (pixel p (i .x) (i .y) (i .in-grid .x-in) (i .in-grid .y-in) (i .place))
-          (column-above (layers g) t g (i .x) (i .y) z (i .in-grid .z-in) (i .has));
+          (top-above 0 (layers g) t g (i .x) (i .y) z (omega arith) (omega (arith, i .in-grid .z-in)) (i .has));
       least = λ p b l e k. by-spot p b k (spot (g .width) (g .height) p (omega (arith, zeros)));
     }
   where
@@ -120,11 +133,11 @@ drawn-raised t g f =
     zeros = length-replicate (g .width * g .height) 0
 
     pixel : (p x y : ℕ) → x < g .width → y < g .height → p ≡ y * g .width + x
-        → getD (drawn t g) p 0 ≡ columnFrom (layers g) t g x y
-    pixel p x y l m e = rows-at t g (g .height) 0 p x y y l m e (omega arith)
+        → getD (drawn t g) p 0 ≡ topFrom 0 (layers g) t g x y
+    pixel p x y l m e = rows-at t g (g .height) 0 p x y y l m e (omega arith) ∙ column-top (layers g) t g x y
 
     by-spot : (p b : ℕ) → ((z : ℕ) → Hit t g whole p z → z < b) → Spot (g .width) (g .height) p → getD (drawn t g) p 0 ≤ b
     by-spot p b k s =
         rw (pixel p (s .x) (s .y) (s .x-in) (s .y-in) (s .place))
-        (column-least (layers g) t g (s .x) (s .y) b (λ z l m.
+        (top-least 0 (layers g) t g (s .x) (s .y) b (λ z _ l m.
         k z (record { x = s .x; y = s .y; place = s .place; inside = omega arith; in-grid = omega arith; has = m })))

@@ -2,9 +2,9 @@
 -- what a definition gives, and what the paper says.
 use mathlib.Core.Path.{_≡_, refl}
 use mathlib.Core.List.{List, [], _∷_, _++_, map}
-use lib.IntN.{ℤ, pos, negsuc, negℤ}
+use lib.IntN.{ℤ, pos, negℤ}
 use Prim.Native.Nat.{ℕ}
-use Rattle.rules.specs.Values.{pick, smaller, larger, sum, difference, product, square, rootFrom, rootOf, Clause, Range, range, Box, holdsZero, absoluteR, squareR, rootR, productR, sumR, differenceR, negR, smallerR, largerR, unaryRange, binaryRange, rangeOf, sideBelow, sideAbove, choiceOf}
+use Rattle.rules.specs.Values.{smaller, larger, sum, difference, product, square, rootFrom, rootOf, Clause, Range, range, Box, holdsZero, absoluteR, squareR, rootR, productR, sumR, differenceR, negR, smallerR, largerR, unaryRange, binaryRange, rangeOf, sideBelow, sideAbove, choiceOf}
 use Rattle.rules.specs.Tapes.{Tape, noRange, choicesFrom, reads, isIn, without, onClause, shortFrom, lastOut, shortened, listOf}
 
 -- A row of numbers: a range is its two ends, a tape is its list.

@@ -4,9 +4,11 @@ use mathlib.Core.Bool.{Bool, true, false, _&&_, not, false≢true}
 use lib.IntN.{ℤ, pos, zero-*ℤ, +ℤ-idr, _+ℤ_}
 use Prim.Native.Nat.{ℕ, _+_, _-_, _≤_, _<_}
 use native.Mathlib.Omega.{arith}
-use Rattle.rules.specs.Values.{pick, firstOf, when, IsValue, below, reaches, range}
+use borrow.Author.Tests.{not-false}
+use Rattle.rules.specs.Values.{pick, when, IsValue, below, reaches, range}
 use Rattle.rules.specs.Drawings.{Grid, at, solid, sampleAt, axisOk, sizesOk, axesOk, gridFault, Region, lesser, boxOf}
-use Rattle.rules.proofs.Order.{AtMost, Holds, HoldsBox, at-most-refl, value-between, reaches-value, and-left, and-right, at-rises}
+use Rattle.rules.proofs.Order.{AtMost, Holds, HoldsBox, at-most-refl, value-between, reaches-value, at-rises}
+use Rattle.rules.proofs.Tests.{and-left, and-right, tests-after, last-off}
 use Rattle.rules.proofs.Regions.{Inside, InGrid, lesser-most, lesser-both, Fits, grid-fits}
 
 -- An axis of n samples, which are values and do not fall.
@@ -79,18 +81,14 @@ z-ok : (t : Bool) (o s : ℤ) (n : ℕ) → pick t (axisOk o s n) (reaches o) �
 z-ok true o s n e = (λ h. axis-ok o s n e, axis-ok o s n e .origin)
 z-ok false o s n e = (λ h. absurd (false≢true h), reaches-value o e)
 
-axes-ok : (a b : Bool) → firstOf (when a 10) (when (not b) 11) ≡ 0 → b ≡ true
-axes-ok false true e = refl
-axes-ok false false e = absurd (omega arith)
-axes-ok true b e = absurd (omega arith)
-
 sound : (g : Grid) → gridFault (solid g) g ≡ 0 → Sound g
 unfolding gridFault
 sound g f =
     let x = axisOk (g .originX) (g .stepX) (g .width) in
     let y = axisOk (g .originY) (g .stepY) (g .height) in
     let z = pick (solid g) (axisOk (g .originZ) (g .stepZ) (g .depth)) (reaches (g .originZ)) in
-    let e = axes-ok (not (sizesOk (solid g) g)) (axesOk (solid g) g) f in
+    let a = not (axesOk (solid g) g) in
+    let e = not-false (x && (y && z)) (last-off a 10 (tests-after (not (sizesOk (solid g) g)) 9 (when a 11) f)) in
     let h = and-right x (y && z) e in
     let k = z-ok (solid g) (g .originZ) (g .stepZ) (g .depth) (and-right y z h) in
     record {

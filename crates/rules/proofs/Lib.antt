@@ -1,9 +1,13 @@
 -- What is proved of the definitions.
 pub mod Figures
+pub mod Tests
+pub mod Words
 pub mod Order
 pub mod Root
 pub mod Monotone
 pub mod Arithmetic
+pub mod EndValues
+pub mod Reading
 pub mod Accepted
 pub mod Runs
 pub mod Needed
@@ -18,11 +22,12 @@ pub mod Pixels
 pub mod Samples
 pub mod Columns
 pub mod Walk
+pub mod Heights
 pub mod Tiles
-pub mod Reading
 pub mod Bytes
 pub mod RestatedValues
 pub mod RestatedTapes
 pub mod RestatedDrawings
 pub mod RestatedPictures
 pub mod Demands
+pub mod Example

@@ -6,6 +6,7 @@ use Prim.Native.Nat.{ℕ, suc, _*_}
 use native.Mathlib.Nat.{mul-le-mul-right}
 use native.Mathlib.Omega.{arith}
 use Rattle.rules.specs.Values.{pick, IsValue, below, smaller, larger, clamped, floored, sum, difference, product, square, absolute}
+use Rattle.rules.proofs.Tests.{of-pick}
 use Rattle.rules.proofs.Order.{up, down, AtMost, at-most-refl, at-most-trans, at-most-antisym, below-at-most, not-below}
 use Rattle.rules.proofs.Order.{sum-rises, neg-falls, neg-up, neg-down}
 
@@ -66,11 +67,7 @@ larger-right a b = by (below a b) refl
     by true e = at-most-refl b
     by false e = not-below a b e
 
--- What holds of both holds of the one that is picked.
-pub of-pick : {A : Type 0} (P : A → Type 0) (t : Bool) {x y : A} → P x → P y → P (pick t x y)
-of-pick P true h k = h
-of-pick P false h k = k
-
+-- What holds of both holds of the smaller and of the larger.
 pub of-smaller : (P : ℤ → Type 0) (a b : ℤ) → P a → P b → P (smaller a b)
 unfolding smaller
 of-smaller P a b h k = of-pick P (below b a) k h

@@ -10,6 +10,7 @@ use native.Mathlib.Omega.{arith}
 use borrow.Author.Tests.{ltb-true, ltb-false, leb-true, lt-ltb, le-ltb, not-true}
 use Rattle.rules.specs.Values.{IsValue, top, isNeg, below, reaches, Sample, Range, Box}
 use Rattle.rules.specs.Drawings.{at, within, endsOk, inBox, boxOk}
+pub use Rattle.rules.proofs.Tests.{and-left, and-right}
 
 -- z is up z − down z.
 abbrev pub up : ℤ → ℕ
@@ -130,18 +131,6 @@ value-between {a} {b} (negsuc c) u v h k = record { bound = omega (arith, parts 
 -- The tests of the definitions, as facts.
 pub reaches-value : (z : ℤ) → reaches z ≡ true → IsValue z
 reaches-value z e = record { bound = leb-true (natAbs z) top e }
-
-pub and-left : (a b : Bool) → (a && b) ≡ true → a ≡ true
-and-left true b e = refl
-and-left false b e = e
-
-pub and-right : (a b : Bool) → (a && b) ≡ true → b ≡ true
-and-right true b e = e
-and-right false b e = absurd (false≢true e)
-
-pub and-both : (a b : Bool) → a ≡ true → b ≡ true → (a && b) ≡ true
-and-both true b d e = e
-and-both false b d e = d
 
 pub holds-value : {r : Range} {z : ℤ} → Holds r z → IsValue z
 holds-value {r} {z} h = value-between z (h .low-value) (h .high-value) (h .above) (h .under)

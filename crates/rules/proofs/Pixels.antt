@@ -13,7 +13,7 @@ use lib.Seq.{getD-set-same, getD-set-other}
 use borrow.Author.Tests.{ltb-true, ltb-false, leb-true}
 use Rattle.rules.specs.Values.{pick}
 use Rattle.rules.specs.Drawings.{Grid, solid, Region, pastX, pastY, pastZ, raiseRow, raiseRows, filled, rowHigh, rowsHigh, hidden}
-use Rattle.rules.proofs.Order.{and-left, and-right}
+use Rattle.rules.proofs.Tests.{and-left, and-right, of-pick}
 use Rattle.rules.proofs.Raised.{Raised, unchanged, joined, same-set}
 
 -- The place q is one of n from p on.
@@ -34,11 +34,7 @@ risen z a = pick (ltb a z) z a
 
 risen-least : (z a b : ℕ) → a ≤ b → z ≤ b → risen z a ≤ b
 unfolding risen
-risen-least z a b h k = go (ltb a z)
-  where
-    go : (t : Bool) → pick t z a ≤ b
-    go true = k
-    go false = h
+risen-least z a b h k = of-pick (λ v. v ≤ b) (ltb a z) k h
 
 risen-from : (z a : ℕ) → (a ≤ risen z a) × (z ≤ risen z a)
 unfolding risen

@@ -9,9 +9,10 @@ use native.Mathlib.Decide.{decLt}
 use native.Mathlib.Omega.{arith}
 use lib.Dec.{ltb, leb}
 use lib.ListN.{length, length-append}
-use borrow.Author.Tests.{ltb-true, leb-true, leb-false, lt-ltb}
-use Rattle.rules.specs.Values.{pick, firstOf, when}
-use Rattle.rules.specs.Drawings.{sizeLimit, Grid, solid, layers, Region, region, lesser, pastX, pastY, pastZ, over, alongX, alongY, alongZ, children, sides, whole, sizeOk, sizesOk, axesOk, gridFault}
+use borrow.Author.Tests.{ltb-true, leb-true, leb-false, lt-ltb, not-false}
+use Rattle.rules.specs.Values.{pick}
+use Rattle.rules.specs.Drawings.{sizeLimit, Grid, solid, layers, Region, region, lesser, pastX, pastY, pastZ, over, alongX, alongY, alongZ, children, sides, whole, sizeOk, sizesOk, gridFault}
+use Rattle.rules.proofs.Tests.{and-left, and-right, test-off, of-pick}
 
 -- The index triple (x, y, z) lies in the region, not cut at the grid's edge; and in the grid.
 pub record Inside (r : Region) (x y z : ℕ) : Type 0 where
@@ -97,7 +98,7 @@ turned : {p q : Region} → Disjoint p q → Disjoint q p
 turned d = record { never = λ x y z h k. d .never x y z k h }
 
 -- Two lists, upward or downward in number: rows and columns go upward, layers downward.
-abbrev joined : Bool → List Region → List Region → List Region
+abbrev pub joined : Bool → List Region → List Region → List Region
 joined up u v = pick up (u ++ v) (v ++ u)
 
 each-joined : (P : Region → Type 0) (up : Bool) (u v : List Region) → Each P u → Each P v → Each P (joined up u v)
@@ -120,7 +121,7 @@ apart-joined P Q f true u v a b c d = apart-append P Q f u v a b c d
 apart-joined P Q f false u v a b c d = apart-append Q P (λ q p k h. turned (f p q h k)) v u b a d c
 
 -- The lists f a of l parts of length n along one axis, from a ≡ i on, those that begin before past.
-unfoldable along : Bool → ℕ → ℕ → ℕ → ℕ → (ℕ → List Region) → List Region
+unfoldable pub along : Bool → ℕ → ℕ → ℕ → ℕ → (ℕ → List Region) → List Region
 along up zero i n past f = []
 along up (suc l) i n past f = joined up (pick (ltb i past) (f i) []) (along up l (i + n) n past f)
 
@@ -197,19 +198,19 @@ module _ (start : Region → ℕ) (index : ℕ → ℕ → ℕ → ℕ)
       (apart-pick (ltb i past) (f i) (d i)) (apart-along up l (i + n) n past f s d)
 
 -- The three list formers, and the children, in this form.
-along-x : (l i j k n past : ℕ) → alongX l i j k n past ≡ along true l i n past (λ a. region a j k n ∷ [])
+pub along-x : (l i j k n past : ℕ) → alongX l i j k n past ≡ along true l i n past (λ a. region a j k n ∷ [])
 unfolding alongX along
 along-x zero i j k n past = refl
 along-x (suc l) i j k n past = ap (λ v. pick (ltb i past) (region i j k n ∷ []) [] ++ v) (along-x l (i + n) j k n past)
 
-along-y : (m l i j k n px py : ℕ)
+pub along-y : (m l i j k n px py : ℕ)
     → alongY m l i j k n px py ≡ along true m j n py (λ b. along true l i n px (λ a. region a b k n ∷ []))
 unfolding alongY along
 along-y zero l i j k n px py = refl
 along-y (suc m) l i j k n px py =
     ap₂ (λ u v. pick (ltb j py) u [] ++ v) (along-x l i j k n px) (along-y m l i (j + n) k n px py)
 
-along-z : (m l i j k n px py pz : ℕ) → alongZ m l i j k n px py pz
+pub along-z : (m l i j k n px py pz : ℕ) → alongZ m l i j k n px py pz
     ≡ along false m k n pz (λ c. along true l j n py (λ b. along true l i n px (λ a. region a b c n ∷ [])))
 unfolding alongZ along
 along-z zero l i j k n px py pz = refl
@@ -220,7 +221,7 @@ abbrev cells : ℕ → ℕ → Region → ℕ → ℕ → ℕ → ℕ → List R
 cells m l r n px py pz =
     along false m (r .k) n pz (λ c. along true l (r .j) n py (λ b. along true l (r .i) n px (λ a. region a b c n ∷ [])))
 
-over-parts : (a n l : ℕ) → 1 ≤ n → a ≡ l * n → over a n ≡ l
+pub over-parts : (a n l : ℕ) → 1 ≤ n → a ≡ l * n → over a n ≡ l
 over-parts a zero l h e = absurd (omega arith)
 over-parts a (suc n) l h e = div-eq-of-eq-mul-left h e
 
@@ -243,11 +244,7 @@ lesser-most a b = by-test (leb a b) refl
 
 pub lesser-both : (x a b : ℕ) → x < a → x < b → x < lesser a b
 unfolding lesser
-lesser-both x a b h k = by-test (leb a b)
-  where
-    by-test : (t : Bool) → x < pick t a b
-    by-test true = h
-    by-test false = k
+lesser-both x a b h k = of-pick (λ v. x < v) (leb a b) h k
 
 -- The layers: a flat grid has one, and one part of them.
 pub layer-in : (b : Bool) (z d e : ℕ) → z < pick b (lesser d e) 1 → z < pick b d 1
@@ -401,28 +398,23 @@ pub tiles-once : (g : Grid) → Fits g → (x y z : ℕ) → InGrid g x y z → 
 tiles-once g f x y z h = apart-once x y z (children g whole 64) (tiles-apart g) (tiles-cover g f x y z h)
 
 -- A grid that is not refused fits.
-both : (a b : Bool) → (a && b) ≡ true → (a ≡ true) × (b ≡ true)
-both true b e = (refl, e)
-both false b e = (e, cc)
-
 size-fits : (n : ℕ) → sizeOk n ≡ true → n ≤ sizeLimit
-size-fits n e = leb-true n sizeLimit (both (leb 1 n) (leb n sizeLimit) e .1)
+size-fits n e = leb-true n sizeLimit (and-right (leb 1 n) (leb n sizeLimit) e)
 
 layers-fit : (b : Bool) (d : ℕ) → (not b || sizeOk d) ≡ true → pick b d 1 ≤ sizeLimit
 layers-fit true d e = size-fits d e
 layers-fit false d e = omega arith
 
-sizes-ok : (a b : Bool) → firstOf (when (not a) 10) (when b 11) ≡ 0 → a ≡ true
-sizes-ok true b e = refl
-sizes-ok false b e = absurd (omega arith)
-
 pub grid-fits : (g : Grid) → gridFault (solid g) g ≡ 0 → Fits g
 unfolding gridFault
 grid-fits g h =
-    let a = both (sizeOk (g .width)) _ (sizes-ok (sizesOk (solid g) g) (not (axesOk (solid g) g)) h) in
-    let b = both (sizeOk (g .height)) _ (a .1) in
+    let w = sizeOk (g .width) in
+    let v = sizeOk (g .height) in
+    let d = not (solid g) || sizeOk (g .depth) in
+    let a = not-false (sizesOk (solid g) g) (test-off (not (sizesOk (solid g) g)) 9 _ h) in
+    let b = and-right w (v && d) a in
     record {
-      width = size-fits (g .width) (a .0);
-      height = size-fits (g .height) (b .0);
-      layers = layers-fit (solid g) (g .depth) (b .1);
+      width = size-fits (g .width) (and-left w (v && d) a);
+      height = size-fits (g .height) (and-left v d b);
+      layers = layers-fit (solid g) (g .depth) (and-right v d b);
     }

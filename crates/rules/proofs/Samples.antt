@@ -32,7 +32,7 @@ pub record Empty (t : Tape) (g : Grid) (r : Region) : Type 0 where
   pub none : (x y z : ℕ) → Inside r x y z → InGrid g x y z → material t (sampleAt g x y z) ≡ false
 
 -- A sample is at a pixel of its region, below the region's end.
-hit-pixel : {t : Tape} {g : Grid} {r : Region} {p z : ℕ} → Hit t g r p z → Pixel g r p × (z < pastZ g r)
+pub hit-pixel : {t : Tape} {g : Grid} {r : Region} {p z : ℕ} → Hit t g r p z → Pixel g r p × (z < pastZ g r)
 hit-pixel {t} {g} {r} {p} {z} h =
     let i : Inside r (h .x) (h .y) z = h .inside in
     let k : InGrid g (h .x) (h .y) z = h .in-grid in (
@@ -48,32 +48,37 @@ hit-pixel {t} {g} {r} {p} {z} h =
       layer-past (solid g) z (g .depth) (r .k + r .long) (k .z-in) (i .z-to),
     )
 
--- A region's last layer is in the region and in the grid, flat and solid alike.
+-- The region's layers at one of its pixels are in the region and in the grid, flat and solid alike.
 layer-most : (b : Bool) (d e : ℕ) → 1 ≤ e → pick b (lesser d e) 1 ≤ e
 layer-most true d e h = lesser-most d e .1
 layer-most false d e h = h
+
+pixel-inside : {g : Grid} {r : Region} {p : ℕ} (q : Pixel g r p) → 1 ≤ r .long → (z : ℕ) → r .k ≤ z → z < pastZ g r
+    → Inside r (q .x) (q .y) z × InGrid g (q .x) (q .y) z
+pixel-inside {g} {r} {p} q l z h k =
+    let u = lesser-most (g .width) (r .i + r .long) in
+    let v = lesser-most (g .height) (r .j + r .long) in
+    let n = layer-most (solid g) (g .depth) (r .k + r .long) (omega arith) in
+    let o = layer-in (solid g) z (g .depth) (r .k + r .long) k in
+    (omega arith, omega arith)
+
+pub pixel-hit : {t : Tape} {g : Grid} {r : Region} {p : ℕ} (q : Pixel g r p) → 1 ≤ r .long → (z : ℕ) → r .k ≤ z
+    → z < pastZ g r → material t (sampleAt g (q .x) (q .y) z) ≡ true → Hit t g r p z
+pixel-hit q l z h k m =
+    let i = pixel-inside q l z h k in
+    record { x = q .x; y = q .y; place = q .place; inside = i .0; in-grid = i .1; has = m }
 
 full-top : {t : Tape} {g : Grid} {r : Region} → Full t g r → Begins g r → 1 ≤ r .long → (p z : ℕ)
     → Pixel g r p × (z < pastZ g r) → Topped (Hit t g r) p z
 full-top {t} {g} {r} f b l p z h =
     let q : Pixel g r p = h .0 in
-    let u = lesser-most (g .width) (r .i + r .long) in
-    let v = lesser-most (g .height) (r .j + r .long) in
     let m = layer-past (solid g) (r .k) (g .depth) (r .k + r .long) (b .z-in) (omega arith) in
-    let n = layer-most (solid g) (g .depth) (r .k + r .long) (omega arith) in
-    let o = layer-in (solid g) (pastZ g r - 1) (g .depth) (r .k + r .long) (omega arith) in
-    let i : Inside r (q .x) (q .y) (pastZ g r - 1) = omega arith in
-    let k : InGrid g (q .x) (q .y) (pastZ g r - 1) = omega arith in
+    let low : r .k ≤ pastZ g r - 1 = omega arith in
+    let past : pastZ g r - 1 < pastZ g r = omega arith in
+    let i = pixel-inside q l (pastZ g r - 1) low past in
     record {
       layer = pastZ g r - 1;
-      is-in = record {
-        x = q .x;
-        y = q .y;
-        place = q .place;
-        inside = i;
-        in-grid = k;
-        has = f .all (q .x) (q .y) (pastZ g r - 1) i k;
-      };
+      is-in = pixel-hit q l (pastZ g r - 1) low past (f .all (q .x) (q .y) (pastZ g r - 1) (i .0) (i .1));
       high = omega arith;
     }
 

@@ -1,6 +1,5 @@
 -- Demand 3: every accepted tape's tile drawing is its full drawing, its short tapes have its values, and the count of a
 -- 64-tile is bounded.
-use mathlib.Core.Path.{_≡_}
 use Rattle.rules.specs.Tapes.{Tape}
 use Rattle.rules.specs.Drawings.{Tiles, Demand-3}
 use Rattle.rules.proofs.Order.{in-box, holds-within}

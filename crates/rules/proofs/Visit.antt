@@ -3,7 +3,7 @@ use mathlib.Core.Path.{_≡_, refl}
 use mathlib.Core.Bool.{Bool, true, false}
 use mathlib.Core.List.{List, [], _∷_}
 use Prim.Native.Nat.{ℕ}
-use Rattle.rules.specs.Values.{isNeg, Range}
+use Rattle.rules.specs.Values.{isNeg}
 use Rattle.rules.specs.Tapes.{Tape, material, rangeOver}
 use Rattle.rules.specs.Drawings.{Grid, sampleAt, Region, boxOf, State, hidden, children, fold, counted, fillIn, shortTape, onSample, visit}
 

@@ -90,7 +90,7 @@ abbrev pub lastSide : ℕ → List ℕ → ℕ
 lastSide a [] = a
 lastSide a (n ∷ ns) = lastSide n ns
 
-divided-long : (r : Region) (n l : ℕ) → Divides r n l → 1 ≤ r .long
+pub divided-long : (r : Region) (n l : ℕ) → Divides r n l → 1 ≤ r .long
 divided-long r n l d = omega (arith, mul-le-mul (d .some-part) (d .positive), d .parts)
 
 -- A visit to a region raises by the region's samples with material.
@@ -113,7 +113,7 @@ visit-raised (n ∷ ns) a d o g sound t good r b e s =
     (counted t s))
 
 -- Tiles of side 64 that cover the grid, in any order.
-sides-last : (g : Grid) → lastSide 64 (sides g) ≡ 1
+pub sides-last : (g : Grid) → lastSide 64 (sides g) ≡ 1
 unfolding sides
 sides-last g = go (solid g)
   where

@@ -2,9 +2,9 @@
 use mathlib.Core.Path.{_≡_}
 use mathlib.Core.Bool.{Bool, true, false, _&&_, _||_, not}
 use mathlib.Core.List.{List, [], _∷_, _++_}
-use lib.IntN.{ℤ, pos, natAbs, _+ℤ_, _*ℤ_}
+use lib.IntN.{ℤ, pos, _+ℤ_, _*ℤ_}
 use Prim.Native.Nat.{ℕ, zero, suc, _+_, _-_, _*_, _/_, _≤_}
-use lib.Dec.{eqb, ltb, leb}
+use lib.Dec.{ltb, leb}
 use lib.ListN.{length, getD, set, replicate}
 use Rattle.rules.specs.Values.{pick, firstOf, when, isNeg, below, reaches, Sample, Range, range, Box}
 use Rattle.rules.specs.Tapes.{Tape, valueAt, material, rangeOver, shortened, readTape}
@@ -203,7 +203,7 @@ unfoldable pub onSample : Tape → Grid → Region → State → State
 onSample t g r s =
     pick (material t (sampleAt g (r .i) (r .j) (r .k))) (fillIn g r (counted t s)) (counted t s)
 
--- "Run it over ranges. High end below 0: fill. Low end 0 or more: skip. Otherwise shorten and go down." The sides are
+-- "Run it over ranges. High end below 0: fill"; "Low end 0 or more: skip. Otherwise shorten and go down." The sides are
 -- those below the region's own; none are left at side 1.
 unfoldable pub visit : List ℕ → Tape → Grid → Region → State → State
 visit [] t g r s = elim (hidden g r (s .heights)) [ true ↦ s | false ↦ onSample t g r s ]
