@@ -3,15 +3,15 @@ use mathlib.Core.Path.{_≡_, refl, sym, ap, _∙_}
 use mathlib.Core.Bool.{Bool, true, false, not}
 use lib.IntN.{ℤ, pos, negsuc}
 use lib.Dec.{ltb}
-use lib.Signed.{ltZ}
-use Prim.Native.Nat.{ℕ, _/_, _<_, _≤_, min, max}
+use lib.Signed.{ltZ, mag}
+use Prim.Native.Nat.{ℕ, _<_, _≤_, _^_, min, max}
 use native.Mathlib.Omega.{arith}
 use borrow.Author.Tests.{ltb-true, ltb-false, le-ltb}
 use mir.Syntax.{w32, w64}
 use mir.Val.{SFits}
 use mir.Facts.{toZ-ofZ}
 use Rattle.rules.specs.Values.{pick, smaller, larger, clamped, floored, isNeg, holdsZero, range}
-use Rattle.fixed.proofs.Words.{read}
+use Rattle.fixed.proofs.Words.{read, back-one}
 
 -- The lesser of two naturals by a test is `min`, the greater `max`.
 lesser : (a b : ℕ) → pick (ltb b a) b a ≡ min a b
@@ -48,43 +48,47 @@ larger-neg : (a b : ℕ) → larger (negsuc a) (negsuc b) ≡ negsuc (min a b)
 unfolding larger
 larger-neg a b = pick-of negsuc (ltb b a) b a ∙ ap negsuc (lesser a b)
 
--- Clamping: first to the whole range of the type, then its least number is raised.
-abbrev saturated : ℤ → ℤ
-saturated x = larger (smaller x (pos 2147483647)) (negsuc 2147483647)
+-- Clamping: to M above and −(n + 1) below. With M for n this is the whole range of the type, whose least number is then
+-- raised.
+abbrev pub bounded : ℕ → ℤ → ℤ
+bounded n x = larger (smaller x (pos 2147483647)) (negsuc n)
 
-saturated-pos : (a : ℕ) → saturated (pos a) ≡ pos (min a 2147483647)
+bounded-pos : (n a : ℕ) → bounded n (pos a) ≡ pos (min a 2147483647)
 unfolding larger
-saturated-pos a = ap (λ z. larger z (negsuc 2147483647)) (smaller-pos a 2147483647)
+bounded-pos n a = ap (λ z. larger z (negsuc n)) (smaller-pos a 2147483647)
 
-saturated-neg : (a : ℕ) → saturated (negsuc a) ≡ negsuc (min a 2147483647)
+bounded-neg : (n a : ℕ) → bounded n (negsuc a) ≡ negsuc (min a n)
 unfolding smaller
-saturated-neg a = larger-neg a 2147483647
+bounded-neg n a = larger-neg a n
 
-saturated-fits : (x : ℤ) → SFits w32 (saturated x)
-saturated-fits (pos a) = rw saturated-pos (omega arith)
-saturated-fits (negsuc a) = rw saturated-neg (omega arith)
+bounded-fits : (n : ℕ) → n ≤ 2147483647 → (x : ℤ) → SFits w32 (bounded n x)
+bounded-fits n h (pos a) = rw bounded-pos (omega arith)
+bounded-fits n h (negsuc a) = rw bounded-neg (omega arith)
 
-raised : (x : ℤ) → larger (saturated x) (negsuc 2147483646) ≡ clamped x
+pub bounded-is : (x : ℤ) → bounded 2147483646 x ≡ clamped x
+bounded-is (pos a) = bounded-pos 2147483646 a
+bounded-is (negsuc a) = bounded-neg 2147483646 a
+
+pub raised-is : (x : ℤ) → larger (bounded 2147483647 x) (negsuc 2147483646) ≡ clamped x
 unfolding larger
-raised (pos a) = ap (λ z. larger z (negsuc 2147483646)) (saturated-pos a)
-raised (negsuc a) =
-    ap (λ z. larger z (negsuc 2147483646)) (saturated-neg a)
+raised-is (pos a) = ap (λ z. larger z (negsuc 2147483646)) (bounded-pos 2147483647 a)
+raised-is (negsuc a) =
+    ap (λ z. larger z (negsuc 2147483646)) (bounded-neg 2147483647 a)
     ∙ larger-neg (min a 2147483647) 2147483646
     ∙ ap negsuc (omega arith)
 
--- The same through words: l is what the lesser answers, g the greater, m the maximum.
-module _ (x l g : ℤ) (f : SFits w64 x) (fl : SFits w64 l) (fg : SFits w64 g)
-    (el : l ≡ smaller (read w64 x) (pos 2147483647)) (eg : g ≡ larger (read w64 l) (negsuc 2147483647)) where
-  read-saturated : read w64 g ≡ saturated x
-  read-saturated =
-      toZ-ofZ fg ∙ eg
-      ∙ ap (λ z. larger z (negsuc 2147483647)) (toZ-ofZ fl ∙ el ∙ ap (λ z. smaller z (pos 2147483647)) (toZ-ofZ f))
+-- The same through words: y is the word that holds x, l what the lesser answers, g the greater.
+module _ (n : ℕ) (h : n ≤ 2147483647) (x y l g : ℤ) (ex : y ≡ x) (fl : mag l < 2 ^ 63) (fg : mag g < 2 ^ 63)
+    (el : l ≡ smaller y (pos 2147483647)) (eg : g ≡ larger (read w64 l) (negsuc n)) where
+  read-bounded : read w64 g ≡ bounded n x
+  read-bounded =
+      back-one w64 (λ z. larger z (negsuc n)) g fg eg (back-one w64 (λ z. smaller z (pos 2147483647)) l fl el ex)
 
   pub narrow-fits : SFits w32 (read w64 g)
-  narrow-fits = rw read-saturated (saturated-fits x)
+  narrow-fits = rw read-bounded (bounded-fits n h x)
 
-  pub narrow-raised : larger (read w32 (read w64 g)) (negsuc 2147483646) ≡ clamped x
-  narrow-raised = ap (λ z. larger z (negsuc 2147483646)) (toZ-ofZ narrow-fits ∙ read-saturated) ∙ raised x
+  pub narrow : read w32 (read w64 g) ≡ bounded n x
+  narrow = toZ-ofZ narrow-fits ∙ read-bounded
 
 -- Rounding and clamping keep the smaller and the larger.
 abbrev pub rounded : ℤ → ℤ
@@ -133,7 +137,7 @@ pick-not : {A : Type 0} (t : Bool) (a b : A) → pick (not t) a b ≡ pick t b a
 pick-not true a b = refl
 pick-not false a b = refl
 
-module _ (low high least : ℤ) (fl : SFits w32 low) (fh : SFits w32 high) (fs : SFits w32 least) where
+module _ {low high least : ℤ} (fl : SFits w32 low) (fh : SFits w32 high) (fs : SFits w32 least) where
   pub size-above : ltZ (pos 0) (read w32 low) ≡ true → read w32 least ≡ pick (holdsZero (range low high)) (pos 0) least
   size-above e = rw (above-zero low high (rw (toZ-ofZ {w = w32} {z = low} fl) at e)) (toZ-ofZ fs)
 

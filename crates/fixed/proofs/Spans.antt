@@ -21,14 +21,14 @@ fit g = record { low = record { sfits = g .0 .1 }; high = record { sfits = g .1 
 
 -- Each end is what a call answers: of one number, or of two.
 module _ (l h : ℤ) (fl : mag l < 2 ^ 31) (fh : mag h < 2 ^ 31) where
-  pub ends-of-one : (op : ℤ → ℤ) (a b : ℤ) → SFits w32 a → SFits w32 b → l ≡ op (read w32 a) → h ≡ op (read w32 b)
+  pub ends-of-one : (op : ℤ → ℤ) {a b : ℤ} → SFits w32 a → SFits w32 b → l ≡ op (read w32 a) → h ≡ op (read w32 b)
       → range (read w32 l) (read w32 h) ≡ range (op a) (op b)
-  ends-of-one op a b fa fb el eh = both range (back-one w32 op l fl el (toZ-ofZ fa)) (back-one w32 op h fh eh (toZ-ofZ fb))
+  ends-of-one op fa fb el eh = both range (back-one w32 op l fl el (toZ-ofZ fa)) (back-one w32 op h fh eh (toZ-ofZ fb))
 
-  pub ends-of-two : (op : ℤ → ℤ → ℤ) (a b c d : ℤ) → SFits w32 a → SFits w32 b → SFits w32 c → SFits w32 d
+  pub ends-of-two : (op : ℤ → ℤ → ℤ) {a b c d : ℤ} → SFits w32 a → SFits w32 b → SFits w32 c → SFits w32 d
       → l ≡ op (read w32 a) (read w32 b) → h ≡ op (read w32 c) (read w32 d)
       → range (read w32 l) (read w32 h) ≡ range (op a b) (op c d)
-  ends-of-two op a b c d fa fb fc fd el eh =
+  ends-of-two op fa fb fc fd el eh =
       both range (back-two w32 op l fl el (toZ-ofZ fa) (toZ-ofZ fb)) (back-two w32 op h fh eh (toZ-ofZ fc) (toZ-ofZ fd))
 
 -- Which of two spans lies below the other, by tests of words.

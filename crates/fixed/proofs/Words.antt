@@ -4,7 +4,7 @@ use mathlib.Core.Bool.{Bool, true, false}
 use lib.IntN.{ℤ, pos, negsuc, negℤ, natAbs, subℕ, _+ℤ_, _-ℤ_, _*ℤ_, +ℤ-idl}
 use lib.Signed.{ltZ, mag, mag-shr}
 use lib.Dec.{ltb}
-use Prim.Native.Nat.{ℕ, zero, suc, _+_, _-_, _*_, _<_, _≤_, _^_}
+use Prim.Native.Nat.{ℕ, zero, suc, _+_, _*_, _<_, _≤_, _^_}
 use native.Mathlib.Nat.{mul-le-mul, lt-of-le-of-lt}
 use native.Mathlib.Omega.{arith}
 use borrow.Author.Tests.{ltb-true, ltb-false}
@@ -12,31 +12,12 @@ use mir.Syntax.{Width, w32, w64}
 use mir.Val.{SFits, hbits, toZ, ofZ}
 use mir.Facts.{toZ-ofZ, sfits-widen}
 use Rattle.rules.specs.Values.{IsValue, pick, floored, absolute}
+pub use Rattle.rules.proofs.Words.{read, wide, read-wide, read-fits, back, both, tested}
 
--- A number that went through a word, and one that went through a word of 32 bits and then one of 64.
-abbrev pub read : Width → ℤ → ℤ
-read w z = toZ w (ofZ w z)
+pub read-value : {z : ℤ} → SFits w32 z → IsValue z → IsValue (read w32 z)
+read-value {z} f h = rw (toZ-ofZ {w = w32} {z = z} f) h
 
-abbrev pub wide : ℤ → ℤ
-wide z = read w64 (read w32 z)
-
-pub read-wide : (z : ℤ) → SFits w32 z → wide z ≡ z
-read-wide z f = ap (read w64) (toZ-ofZ f) ∙ toZ-ofZ (sfits-widen tt f)
-
-pub read-fits : (z : ℤ) → SFits w32 z → SFits w64 (read w32 z)
-read-fits z f = rw (toZ-ofZ {w = w32} {z = z} f) (sfits-widen tt f)
-
-pub read-value : (z : ℤ) → SFits w32 z → IsValue z → IsValue (read w32 z)
-read-value z f h = rw (toZ-ofZ {w = w32} {z = z} f) h
-
--- A call's result, which lies in a word, with what the call ensures.
-pub back : (w : Width) (r : ℤ) {s : ℤ} → mag r < 2 ^ hbits w → r ≡ s → read w r ≡ s
-back w r h e = toZ-ofZ {w = w} {z = r} (record { sfits = h }) ∙ e
-
--- The same where what the call took is known to be something else, as it is where that was read from words.
-pub both : {A B C : Type 0} (op : A → B → C) {x a : A} {y b : B} → x ≡ a → y ≡ b → op x y ≡ op a b
-both op {x} {a} {y} {b} e h = ap (λ z. op z y) e ∙ ap (op a) h
-
+-- A call's result, where what the call took is known to be something else, as it is where that was read from words.
 pub back-one : (w : Width) (op : ℤ → ℤ) (r : ℤ) {x a : ℤ} → mag r < 2 ^ hbits w → r ≡ op x → x ≡ a → read w r ≡ op a
 back-one w op r h e ea = back w r h (e ∙ ap op ea)
 
@@ -44,19 +25,16 @@ pub back-two : {A B : Type 0} (w : Width) (op : A → B → ℤ) (r : ℤ) {x a 
     → x ≡ a → y ≡ b → read w r ≡ op a b
 back-two w op r h e ea eb = back w r h (e ∙ both op ea eb)
 
--- A test of words is the test of the numbers, and a choice by it the choice of the numbers.
-pub tested : (w : Width) (u v : ℤ) {t : Bool} → SFits w u → SFits w v → ltZ (read w u) (read w v) ≡ t → ltZ u v ≡ t
-tested w u v f g e = both ltZ (sym (toZ-ofZ {w = w} {z = u} f)) (sym (toZ-ofZ {w = w} {z = v} g)) ∙ e
-
-pub chosen : (w : Width) (u v x y : ℤ) (t : Bool) → SFits w u → SFits w v → SFits w x → SFits w y
+-- A choice by a test of words is the choice of the numbers.
+pub chosen : {w : Width} {u v x y : ℤ} (t : Bool) → SFits w u → SFits w v → SFits w x → SFits w y
     → ltZ (read w u) (read w v) ≡ t → pick t (read w x) (read w y) ≡ pick (ltZ u v) x y
-chosen w u v x y t fu fv fx fy e =
-    both (pick t) (toZ-ofZ fx) (toZ-ofZ fy) ∙ ap (λ s. pick s x y) (sym (tested w u v fu fv e))
+chosen {w} {u} {v} {x} {y} t fu fv fx fy e =
+    both (pick t) (toZ-ofZ fx) (toZ-ofZ fy) ∙ ap (λ s. pick s x y) (sym (tested fu fv e))
 
 -- An operation on two numbers that were widened.
-module _ (op : ℤ → ℤ → ℤ) (a b : ℤ) (fa : SFits w32 a) (fb : SFits w32 b) (f : SFits w64 (op a b)) where
+module _ (op : ℤ → ℤ → ℤ) {a b : ℤ} (fa : SFits w32 a) (fb : SFits w32 b) (f : SFits w64 (op a b)) where
   wide-same : op (wide a) (wide b) ≡ op a b
-  wide-same = both op (read-wide a fa) (read-wide b fb)
+  wide-same = both op (read-wide fa) (read-wide fb)
 
   pub wide-fits : SFits w64 (op (wide a) (wide b))
   wide-fits = rw wide-same f
@@ -81,13 +59,9 @@ mag-neg : (n : ℕ) → mag (negℤ (pos n)) ≤ n
 mag-neg zero = omega arith
 mag-neg (suc n) = omega arith
 
-mag-natAbs : (z : ℤ) → mag z ≤ natAbs z
-mag-natAbs (pos n) = omega arith
-mag-natAbs (negsuc n) = omega arith
-
-natAbs-fits : (z : ℤ) → SFits w32 z → natAbs z ≤ 2147483648
-natAbs-fits (pos n) f = omega arith
-natAbs-fits (negsuc n) f = omega arith
+natAbs-fits : {z : ℤ} → SFits w32 z → natAbs z ≤ 2147483648
+natAbs-fits {z = pos n} f = omega arith
+natAbs-fits {z = negsuc n} f = omega arith
 
 mag-sum : (a b : ℤ) → mag (a +ℤ b) ≤ natAbs a + natAbs b
 mag-sum (pos a) (pos b) = omega arith
@@ -106,16 +80,16 @@ mag-product (pos a) (negsuc b) = mag-neg (a * suc b)
 mag-product (negsuc a) (pos b) = mag-neg (suc a * b)
 mag-product (negsuc a) (negsuc b) = omega arith
 
-module _ (a b : ℤ) (fa : SFits w32 a) (fb : SFits w32 b) where
+module _ {a b : ℤ} (fa : SFits w32 a) (fb : SFits w32 b) where
   pub sum-fits : SFits w64 (a +ℤ b)
-  sum-fits = omega (arith, mag-sum a b, natAbs-fits a fa, natAbs-fits b fb)
+  sum-fits = omega (arith, mag-sum a b, natAbs-fits fa, natAbs-fits fb)
 
   pub difference-fits : SFits w64 (a -ℤ b)
-  difference-fits = omega (arith, mag-sum a (negℤ b), natAbs-neg b, natAbs-fits a fa, natAbs-fits b fb)
+  difference-fits = omega (arith, mag-sum a (negℤ b), natAbs-neg b, natAbs-fits fa, natAbs-fits fb)
 
   pub product-fits : SFits w64 (a *ℤ b)
   product-fits =
-      let h : natAbs a * natAbs b ≤ 2147483648 * 2147483648 = mul-le-mul (natAbs-fits a fa) (natAbs-fits b fb) in
+      let h : natAbs a * natAbs b ≤ 2147483648 * 2147483648 = mul-le-mul (natAbs-fits fa) (natAbs-fits fb) in
       omega (arith, mag-product a b)
 
 -- The negative of a value.
@@ -124,7 +98,7 @@ negated-fits (pos zero) h = omega arith
 negated-fits (pos (suc n)) h = omega arith
 negated-fits (negsuc n) h = omega arith
 
-module _ (a : ℤ) (f : SFits w32 a) (h : IsValue a) where
+module _ {a : ℤ} (f : SFits w32 a) (h : IsValue a) where
   zero-less : pos 0 -ℤ read w32 a ≡ negℤ a
   zero-less = +ℤ-idl (negℤ (read w32 a)) ∙ ap negℤ (toZ-ofZ f)
 
@@ -141,12 +115,12 @@ sized (pos n) false e = refl
 sized (negsuc n) true e = refl
 sized (negsuc n) false e = (cc)
 
-pub absolute-is : (a : ℤ) (t : Bool) → SFits w32 a → ltZ (read w32 a) (pos 0) ≡ t
+pub absolute-is : {a : ℤ} (t : Bool) → SFits w32 a → ltZ (read w32 a) (pos 0) ≡ t
     → pick t (negℤ (read w32 a)) (read w32 a) ≡ absolute a
-absolute-is a t f = rw (toZ-ofZ {w = w32} {z = a} f) (sized a t)
+absolute-is {a} t f = rw (toZ-ofZ {w = w32} {z = a} f) (sized a t)
 
 -- An operation on the results of itself on two pairs.
-module _ (op : ℤ → ℤ → ℤ) (a b c d l h r : ℤ) (fa : SFits w64 a) (fb : SFits w64 b) (fc : SFits w64 c) (fd : SFits w64 d)
+module _ (op : ℤ → ℤ → ℤ) {a b c d : ℤ} (l h r : ℤ) (fa : SFits w64 a) (fb : SFits w64 b) (fc : SFits w64 c) (fd : SFits w64 d)
     (fl : mag l < 2 ^ 63) (fh : mag h < 2 ^ 63) (fr : mag r < 2 ^ 63)
     (el : l ≡ op (read w64 a) (read w64 b)) (eh : h ≡ op (read w64 c) (read w64 d)) (er : r ≡ op (read w64 l) (read w64 h)) where
   pub of-four : read w64 r ≡ op (op a b) (op c d)

@@ -3,7 +3,7 @@ use crate::value;
 ghost use mathlib.Core.Path.{_≡_};
 ghost use lib.IntN.{pos};
 ghost use Rattle.rules.specs.Values.{pick, range, smaller, larger, holdsZero, sumR, differenceR, productR, negR, absoluteR, squareR, rootR, smallerR, largerR};
-ghost use Rattle.fixed.specs.Shapes.{rangeIn, Ends};
+ghost use Rattle.fixed.specs.Shapes.{rangeIn, ValueEnds};
 
 // A range of values, by its ends.
 pub struct Span {
@@ -57,7 +57,7 @@ pub fn multiply_spans(a: Span, b: Span) -> Span
 }
 
 pub fn negate_span(a: Span) -> Span
-    requires { ⌜ Ends a ⌝ }
+    requires { ⌜ ValueEnds a ⌝ }
     ensures { λ r. ⌜ rangeIn r ≡ negR (rangeIn a) ⌝ }
 {
     Span {
@@ -78,7 +78,7 @@ fn low_size(low: i32, high: i32, least: i32) -> i32
 }
 
 pub fn absolute_span(a: Span) -> Span
-    requires { ⌜ Ends a ⌝ }
+    requires { ⌜ ValueEnds a ⌝ }
     ensures { λ r. ⌜ rangeIn r ≡ absoluteR (rangeIn a) ⌝ }
 {
     let first = value::absolute(a.low);
@@ -90,7 +90,7 @@ pub fn absolute_span(a: Span) -> Span
 }
 
 pub fn square_span(a: Span) -> Span
-    requires { ⌜ Ends a ⌝ }
+    requires { ⌜ ValueEnds a ⌝ }
     ensures { λ r. ⌜ rangeIn r ≡ squareR (rangeIn a) ⌝ }
 {
     let s = absolute_span(a);

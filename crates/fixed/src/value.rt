@@ -28,7 +28,7 @@ pub fn maximum(a: i32, b: i32) -> i32
     if a < b { b } else { a }
 }
 
-// Saturated to the whole range of the type first: this the machine does for several numbers at once.
+// Saturated to the whole range of the type first: sums and differences the machine saturates several at once.
 pub fn clamp(x: i64) -> i32
     ensures { λ r. ⌜ r ≡ clamped x ⌝ }
 {
@@ -55,11 +55,11 @@ pub fn exact_product(a: i32, b: i32) -> i64
     a as i64 * b as i64
 }
 
-// Rounded down, as the shift does, and clamped.
+// Rounded down, as the shift does, and clamped: at −M at once, since the machine multiplies no wide numbers side by side.
 pub fn round(x: i64) -> i32
     ensures { λ r. ⌜ r ≡ clamped (floored x) ⌝ }
 {
-    clamp(x >> 16)
+    greater(lesser(x >> 16, 2147483647), -2147483647) as i32
 }
 
 pub fn multiply(a: i32, b: i32) -> i32

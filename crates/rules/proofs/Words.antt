@@ -15,11 +15,11 @@ read w z = toZ w (ofZ w z)
 abbrev pub wide : ℤ → ℤ
 wide z = read w64 (read w32 z)
 
-pub read-wide : (z : ℤ) → SFits w32 z → wide z ≡ z
-read-wide z f = ap (read w64) (toZ-ofZ f) ∙ toZ-ofZ (sfits-widen tt f)
+pub read-wide : {z : ℤ} → SFits w32 z → wide z ≡ z
+read-wide f = ap (read w64) (toZ-ofZ f) ∙ toZ-ofZ (sfits-widen tt f)
 
-pub read-fits : (z : ℤ) → SFits w32 z → SFits w64 (read w32 z)
-read-fits z f = rw (toZ-ofZ {w = w32} {z = z} f) (sfits-widen tt f)
+pub read-fits : {z : ℤ} → SFits w32 z → SFits w64 (read w32 z)
+read-fits {z} f = rw (toZ-ofZ {w = w32} {z = z} f) (sfits-widen tt f)
 
 -- A call's result, which lies in a word, with what the call ensures.
 pub back : (w : Width) (r : ℤ) {s : ℤ} → mag r < 2 ^ hbits w → r ≡ s → read w r ≡ s
@@ -29,5 +29,5 @@ pub both : {A B C : Type 0} (op : A → B → C) {x a : A} {y b : B} → x ≡ a
 both op {x} {a} {y} {b} e h = ap (λ z. op z y) e ∙ ap (op a) h
 
 -- A test of words is the test of the numbers.
-pub tested : (w : Width) (u v : ℤ) {t : Bool} → SFits w u → SFits w v → ltZ (read w u) (read w v) ≡ t → ltZ u v ≡ t
-tested w u v f g e = both ltZ (sym (toZ-ofZ {w = w} {z = u} f)) (sym (toZ-ofZ {w = w} {z = v} g)) ∙ e
+pub tested : {w : Width} {u v : ℤ} {t : Bool} → SFits w u → SFits w v → ltZ (read w u) (read w v) ≡ t → ltZ u v ≡ t
+tested {w} {u} {v} f g e = both ltZ (sym (toZ-ofZ {w = w} {z = u} f)) (sym (toZ-ofZ {w = w} {z = v} g)) ∙ e

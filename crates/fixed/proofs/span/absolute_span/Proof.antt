@@ -1,3 +1,4 @@
+-- `span::absolute_span`: the sizes of both ends, and 0 where the range holds it.
 use lib.IntN.{pos}
 use borrow.Author.Needs.{needs}
 use mir.Syntax.{w32}

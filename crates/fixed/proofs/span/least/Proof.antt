@@ -1,3 +1,4 @@
+-- `span::least`: the smaller of the smaller of two pairs.
 use borrow.Author.Needs.{needs}
 use Rattle.rules.specs.Values.{smaller}
 use Rattle.fixed.proofs.Words.{of-four}
@@ -15,13 +16,12 @@ lesser-requires-3 c κs = search needs
 
 returns : tie.Need-returns
 returns c =
-    let s = c .before .before .before in
-    let a = s .args in
-    let f = s .fits in
+    let f = c .before .before .before .fits in
     let l = c .before .before .lesser in
     let h = c .before .lesser2 in
     let r = c .lesser3 in
-    of-four smaller (a .a) (a .b) (a .c) (a .d) (l .result) (h .result) (r .result) (f .a) (f .b) (f .c) (f .d) (l .ok) (h .ok) (r .ok) (l .ensures) (h .ensures) (r .ensures)
+    of-four smaller (l .result) (h .result) (r .result)
+    (f .a) (f .b) (f .c) (f .d) (l .ok) (h .ok) (r .ok) (l .ensures) (h .ensures) (r .ensures)
 
 pub least-spec : {M : Type 1} → statement M
 least-spec = tie.close (tie.spec lesser-requires lesser-requires-2 lesser-requires-3 returns)

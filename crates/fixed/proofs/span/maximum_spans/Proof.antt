@@ -1,3 +1,4 @@
+-- `span::maximum_spans`: on both ends.
 use borrow.Author.Needs.{needs}
 use Rattle.rules.specs.Values.{larger, largerR}
 use Rattle.fixed.proofs.Spans.{fit, ends-of-two}
@@ -15,13 +16,12 @@ unfolding largerR
 returns c =
     let before = c .before .before .before in
     let args = before .before .before .before .args in
-    let a = args .a in
-    let b = args .b in
-    let f = fit {s = a} (before .before .before .struct-told .given) in
-    let g = fit {s = b} (before .before .struct-told2 .given) in
+    let f = fit {s = args .a} (before .before .before .struct-told .given) in
+    let g = fit {s = args .b} (before .before .struct-told2 .given) in
     let l = before .maximum in
     let h = c .maximum2 in
-    ends-of-two (l .result) (h .result) (l .ok) (h .ok) larger (a .low) (b .low) (a .high) (b .high) (f .low) (g .low) (f .high) (g .high) (l .ensures) (h .ensures)
+    ends-of-two (l .result) (h .result) (l .ok) (h .ok) larger
+    (f .low) (g .low) (f .high) (g .high) (l .ensures) (h .ensures)
 
 pub maximum-spans-spec : {M : Type 1} → statement M
 maximum-spans-spec = tie.close (tie.spec maximum-requires maximum-requires-2 returns)

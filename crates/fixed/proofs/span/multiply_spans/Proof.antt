@@ -1,3 +1,4 @@
+-- `span::multiply_spans`: rounding keeps the least and the greatest of the four exact products.
 use mathlib.Core.Path.{ap, _∙_}
 use lib.IntN.{_*ℤ_}
 use borrow.Author.Needs.{needs}

@@ -1,3 +1,4 @@
+-- `span::negate_span`: the ends change places.
 use lib.IntN.{negℤ}
 use borrow.Author.Needs.{needs}
 use Rattle.rules.specs.Values.{negR}
@@ -19,7 +20,7 @@ returns c =
     let f = fit {s = a} (before .before .struct-told .given) in
     let l = before .negate in
     let h = c .negate2 in
-    ends-of-one (l .result) (h .result) (l .ok) (h .ok) negℤ (a .high) (a .low) (f .high) (f .low) (l .ensures) (h .ensures)
+    ends-of-one (l .result) (h .result) (l .ok) (h .ok) negℤ (f .high) (f .low) (l .ensures) (h .ensures)
 
 pub negate-span-spec : {M : Type 1} → statement M
 negate-span-spec = tie.close (tie.spec negate-requires negate-requires-2 returns)

@@ -1,4 +1,4 @@
-use mathlib.Core.Path.{ap, _∙_}
+-- `span::root_span`: the root of each end.
 use borrow.Author.Needs.{needs}
 use mir.Syntax.{w32}
 use mir.Facts.{toZ-ofZ}

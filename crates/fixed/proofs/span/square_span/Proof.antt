@@ -1,3 +1,4 @@
+-- `span::square_span`: the squares of the ends of the absolute range.
 use mathlib.Core.Path.{ap, _∙_}
 use borrow.Author.Needs.{needs}
 use Rattle.rules.specs.Values.{range, square, squareR}
@@ -22,7 +23,7 @@ returns c =
     let f = fit {s = s .result} (before .before .struct-told .given) in
     let l = before .square in
     let h = c .square2 in
-    ends-of-one (l .result) (h .result) (l .ok) (h .ok) square (s .result .low) (s .result .high) (f .low) (f .high) (l .ensures) (h .ensures)
+    ends-of-one (l .result) (h .result) (l .ok) (h .ok) square (f .low) (f .high) (l .ensures) (h .ensures)
     ∙ ap (λ r. range (square (r .low)) (square (r .high))) (s .ensures)
 
 pub square-span-spec : {M : Type 1} → statement M

@@ -1,3 +1,4 @@
+-- `value::absolute`: by the sign.
 use mathlib.Core.Path.{_∙_}
 use mathlib.Core.Bool.{true, false}
 use mir.Syntax.{w32}
@@ -6,16 +7,16 @@ use Rattle.fixed.proofs.value.absolute.Statement.{statement}
 use Rattle.fixed.proofs.value.absolute.Tie as tie
 
 negate-requires : tie.Need-negate-requires
-negate-requires c κs = let s = c .before in read-value (s .args .a) (s .fits .a) (s .pre)
+negate-requires c κs = let s = c .before in read-value (s .fits .a) (s .pre)
 
 returns : tie.Need-returns
 returns c =
     let s = c .before .before in
     back w32 (c .negate .result) (c .negate .ok)
-    (c .negate .ensures ∙ absolute-is (s .args .a) true (s .fits .a) (c .before .if1 .taken))
+    (c .negate .ensures ∙ absolute-is true (s .fits .a) (c .before .if1 .taken))
 
 returns-2 : tie.Need-returns-2
-returns-2 c = absolute-is (c .before .args .a) false (c .before .fits .a) (c .if1 .left)
+returns-2 c = absolute-is false (c .before .fits .a) (c .if1 .left)
 
 pub absolute-spec : {M : Type 1} → statement M
 absolute-spec = tie.close (tie.spec negate-requires returns returns-2)

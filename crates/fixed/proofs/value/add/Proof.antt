@@ -1,3 +1,4 @@
+-- `value::add`: the sum fits in 64 bits, and is clamped.
 use mathlib.Core.Path.{ap, _∙_}
 use lib.IntN.{_+ℤ_}
 use borrow.Author.Needs.{needs}
@@ -8,16 +9,15 @@ use Rattle.fixed.proofs.value.add.Statement.{statement}
 use Rattle.fixed.proofs.value.add.Tie as tie
 
 cast-clamp : tie.Need-cast-clamp
-cast-clamp c = read-fits (c .args .a) (c .fits .a)
+cast-clamp c = read-fits (c .fits .a)
 
 cast-clamp-2 : tie.Need-cast-clamp-2
-cast-clamp-2 c = read-fits (c .args .b) (c .fits .b)
+cast-clamp-2 c = read-fits (c .fits .b)
 
 add-clamp : tie.Need-add-clamp
 add-clamp c =
-    let a = c .args in
     let f = c .fits in
-    wide-fits _+ℤ_ (a .a) (a .b) (f .a) (f .b) (sum-fits (a .a) (a .b) (f .a) (f .b))
+    wide-fits _+ℤ_ (f .a) (f .b) (sum-fits (f .a) (f .b))
 
 clamp-requires : tie.Need-clamp-requires
 clamp-requires c κs = search needs
@@ -25,9 +25,8 @@ clamp-requires c κs = search needs
 returns : tie.Need-returns
 unfolding sum
 returns c =
-    let a = c .before .args in
     let f = c .before .fits in
-    let e = wide-op _+ℤ_ (a .a) (a .b) (f .a) (f .b) (sum-fits (a .a) (a .b) (f .a) (f .b)) in
+    let e = wide-op _+ℤ_ (f .a) (f .b) (sum-fits (f .a) (f .b)) in
     back w32 (c .clamp .result) (c .clamp .ok) (c .clamp .ensures ∙ ap clamped e)
 
 pub add-spec : {M : Type 1} → statement M

@@ -1,8 +1,13 @@
+-- `value::clamp`: what is saturated fits in 32 bits, and its least number raised is what is clamped.
 use mathlib.Core.Path.{_∙_}
-use borrow.Author.Needs.{needs, sfits-of}
-use mir.Syntax.{w32}
-use Rattle.fixed.proofs.Words.{back}
-use Rattle.fixed.proofs.Ends.{narrow-fits, narrow-raised}
+use lib.IntN.{negsuc}
+use native.Mathlib.Omega.{arith}
+use borrow.Author.Needs.{needs}
+use mir.Syntax.{w32, w64}
+use mir.Facts.{toZ-ofZ}
+use Rattle.rules.specs.Values.{larger}
+use Rattle.fixed.proofs.Words.{read, back-one}
+use Rattle.fixed.proofs.Ends.{narrow-fits, narrow, raised-is}
 use Rattle.fixed.proofs.value.clamp.Statement.{statement}
 use Rattle.fixed.proofs.value.clamp.Tie as tie
 
@@ -17,7 +22,8 @@ cast-narrow c =
     let l = c .before .lesser in
     let g = c .greater in
     let s = c .before .before in
-    narrow-fits (s .args .x) (l .result) (g .result) (s .fits .x) (sfits-of (l .ok)) (sfits-of (g .ok)) (l .ensures) (g .ensures)
+    narrow-fits 2147483647 (omega arith) (s .args .x) (read w64 (s .args .x)) (l .result) (g .result)
+    (toZ-ofZ (s .fits .x)) (l .ok) (g .ok) (l .ensures) (g .ensures)
 
 maximum-requires : tie.Need-maximum-requires
 maximum-requires c κs = search needs
@@ -27,7 +33,10 @@ returns c =
     let l = c .before .before .lesser in
     let g = c .before .greater in
     let s = c .before .before .before in
-    back w32 (c .maximum .result) (c .maximum .ok) (c .maximum .ensures ∙ narrow-raised (s .args .x) (l .result) (g .result) (s .fits .x) (sfits-of (l .ok)) (sfits-of (g .ok)) (l .ensures) (g .ensures))
+    let e = narrow 2147483647 (omega arith) (s .args .x) (read w64 (s .args .x)) (l .result) (g .result)
+    (toZ-ofZ (s .fits .x)) (l .ok) (g .ok) (l .ensures) (g .ensures) in
+    back-one w32 (λ z. larger z (negsuc 2147483646)) (c .maximum .result) (c .maximum .ok) (c .maximum .ensures) e
+    ∙ raised-is (s .args .x)
 
 pub clamp-spec : {M : Type 1} → statement M
 clamp-spec = tie.close (tie.spec lesser-requires greater-requires cast-narrow maximum-requires returns)

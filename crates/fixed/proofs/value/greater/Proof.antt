@@ -1,5 +1,5 @@
+-- `value::greater`: the test of the words is the test of the numbers.
 use mathlib.Core.Bool.{true, false}
-use mir.Syntax.{w64}
 use Rattle.rules.specs.Values.{larger}
 use Rattle.fixed.proofs.Words.{chosen}
 use Rattle.fixed.proofs.value.greater.Statement.{statement}
@@ -8,16 +8,14 @@ use Rattle.fixed.proofs.value.greater.Tie as tie
 returns : tie.Need-returns
 unfolding larger
 returns c =
-    let a = c .before .args in
     let f = c .before .fits in
-    chosen w64 (a .a) (a .b) (a .b) (a .a) true (f .a) (f .b) (f .b) (f .a) (c .if1 .taken)
+    chosen true (f .a) (f .b) (f .b) (f .a) (c .if1 .taken)
 
 returns-2 : tie.Need-returns-2
 unfolding larger
 returns-2 c =
-    let a = c .before .args in
     let f = c .before .fits in
-    chosen w64 (a .a) (a .b) (a .b) (a .a) false (f .a) (f .b) (f .b) (f .a) (c .if1 .left)
+    chosen false (f .a) (f .b) (f .b) (f .a) (c .if1 .left)
 
 pub greater-spec : {M : Type 1} → statement M
 greater-spec = tie.close (tie.spec returns returns-2)

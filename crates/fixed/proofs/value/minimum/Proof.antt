@@ -1,5 +1,5 @@
+-- `value::minimum`: the test of the words is the test of the numbers.
 use mathlib.Core.Bool.{true, false}
-use mir.Syntax.{w32}
 use Rattle.rules.specs.Values.{smaller}
 use Rattle.fixed.proofs.Words.{chosen}
 use Rattle.fixed.proofs.value.minimum.Statement.{statement}
@@ -8,16 +8,14 @@ use Rattle.fixed.proofs.value.minimum.Tie as tie
 returns : tie.Need-returns
 unfolding smaller
 returns c =
-    let a = c .before .args in
     let f = c .before .fits in
-    chosen w32 (a .b) (a .a) (a .b) (a .a) true (f .b) (f .a) (f .b) (f .a) (c .if1 .taken)
+    chosen true (f .b) (f .a) (f .b) (f .a) (c .if1 .taken)
 
 returns-2 : tie.Need-returns-2
 unfolding smaller
 returns-2 c =
-    let a = c .before .args in
     let f = c .before .fits in
-    chosen w32 (a .b) (a .a) (a .b) (a .a) false (f .b) (f .a) (f .b) (f .a) (c .if1 .left)
+    chosen false (f .b) (f .a) (f .b) (f .a) (c .if1 .left)
 
 pub minimum-spec : {M : Type 1} → statement M
 minimum-spec = tie.close (tie.spec returns returns-2)

@@ -1,3 +1,4 @@
+-- `value::multiply`: the exact product, rounded.
 use mathlib.Core.Path.{ap, _∙_}
 use lib.IntN.{_*ℤ_}
 use borrow.Author.Needs.{needs}

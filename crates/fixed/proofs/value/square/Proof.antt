@@ -1,20 +1,16 @@
+-- `value::square`: the product with itself.
 use mathlib.Core.Path.{_∙_}
+use borrow.Author.Needs.{needs}
 use mir.Syntax.{w32}
 use mir.Facts.{toZ-ofZ}
-use Rattle.rules.specs.Values.{square, product}
+use Rattle.rules.specs.Values.{square}
 use Rattle.fixed.proofs.Words.{back}
-use borrow.Author.Needs.{needs}
 use Rattle.fixed.proofs.value.square.Statement.{statement}
 use Rattle.fixed.proofs.value.square.Tie as tie
-use Rattle.fixed.proofs.value.square.Reads as reads
-use Rattle.fixed.proofs.value.square.Lts as lts
-use Rattle.fixed.proofs.value.multiply.Reads as multiply-reads
 
--- src/value.rt:75:5
 multiply-requires : tie.Need-multiply-requires
 multiply-requires c κs = search needs
 
--- src/value.rt:72:1
 returns : tie.Need-returns
 unfolding square
 returns c =

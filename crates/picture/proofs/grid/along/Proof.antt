@@ -1,0 +1,28 @@
+-- The sample, in 64 bits.
+use Rattle.rules.proofs.Words.{read-fits}
+use Rattle.picture.proofs.GridWords.{product-fits, sample-fits, sample-is}
+use borrow.Author.Needs.{needs}
+use Rattle.picture.proofs.grid.along.Statement.{statement}
+use Rattle.picture.proofs.grid.along.Tie as tie
+
+cast-result : tie.Need-cast-result
+cast-result c = read-fits (c .fits .first)
+
+cast-result-2 : tie.Need-cast-result-2
+cast-result-2 c = search needs
+
+cast-result-3 : tie.Need-cast-result-3
+cast-result-3 c = read-fits (c .fits .step)
+
+mul-result : tie.Need-mul-result
+mul-result c = product-fits (c .args .first) (c .args .step) (c .args .i) (c .fits .first) (c .fits .step) (c .fits .i)
+
+add-result : tie.Need-add-result
+add-result c = sample-fits (c .args .first) (c .args .step) (c .args .i) (c .fits .first) (c .fits .step) (c .fits .i)
+
+returns : tie.Need-returns
+returns c = sample-is (c .args .first) (c .args .step) (c .args .i) (c .fits .first) (c .fits .step) (c .fits .i)
+
+pub along-spec : {M : Type 1} → statement M
+along-spec =
+    tie.close (tie.spec cast-result cast-result-2 cast-result-3 mul-result add-result returns)
