@@ -1,0 +1,152 @@
+// Refusals 1 to 9: what is wrong with a lent tape or list, and where. Nothing is written.
+ghost use mathlib.Core.Path.{_≡_};
+ghost use mathlib.Core.List.{_∷_};
+ghost use Prim.Native.Nat.{_+_, _*_, _≤_};
+ghost use lib.ListN.{drop};
+ghost use Rattle.rules.specs.Tapes.{slotLimit, clauseLimit, countsOk, rawsOf, readClauses, readList, headOk, rawsFrom, readTape};
+ghost use Rattle.tape.specs.Checks.{rawOf, Answers};
+use crate::bytes::byte_at;
+use crate::bytes::fields_in;
+use crate::bytes::has_mark;
+use crate::bytes::word_at;
+use crate::clause::Fields;
+use crate::clause::clause_fault;
+use crate::slotset::EMPTY;
+use crate::slotset::with;
+
+pub const SLOT_LIMIT: u32 = 64;
+
+pub const CLAUSE_LIMIT: usize = 1024;
+
+pub const HEAD_BYTES: usize = 8;
+
+pub const CLAUSE_BYTES: usize = 10;
+
+pub const CLAUSE_NUMBERS: usize = 5;
+
+// What a check answers: 0 and the counts of slots and clauses, or the number of the refusal and its clause.
+pub struct Checked {
+    pub number: u8,
+    pub place: u32,
+    pub slots: u32,
+    pub clauses: u32,
+}
+
+fn refused(number: u8, place: u32) -> Checked
+    ensures { λ r. ⌜ r ≡ record { number = number; place = place; slots = 0; clauses = 0 } ⌝ }
+{
+    Checked {
+        number: number,
+        place: place,
+        slots: 0,
+        clauses: 0,
+    }
+}
+
+fn counts_ok(slots: u32, clauses: usize) -> bool
+    ensures { λ r. ⌜ r ≡ countsOk slots clauses ⌝ }
+{
+    (1 <= slots) & ((slots <= SLOT_LIMIT) & ((1 <= clauses) & (clauses <= CLAUSE_LIMIT)))
+}
+
+// The clause whose five numbers start at `at`.
+fn fields_of(list: &[i32], at: usize) -> Fields
+    requires { do ⌜ at + 5 ≤ (← ⟦list.len()⟧) ⌝ }
+    ensures { λ r. ⌜ rawsOf (drop at (now (list .entry))) ≡ rawOf r ∷ rawsOf (drop (at + 5) (now (list .entry))) ⌝ }
+{
+    Fields {
+        opcode: list[at],
+        out: list[at + 1],
+        left: list[at + 2],
+        right: list[at + 3],
+        constant: list[at + 4],
+    }
+}
+
+fn list_clauses(slots: u32, list: &[i32], count: u32) -> Checked
+    requires { do ⌜ (slots ≤ slotLimit) × ((count ≤ clauseLimit) × ((← ⟦list.len()⟧) ≡ 5 * count)) ⌝ }
+    ensures { λ r. ⌜ Answers r (readClauses slots (rawsOf (now (list .entry)))) ⌝ }
+{
+    let mut written = EMPTY;
+    let mut i: u32 = 0;
+    while i < count {
+        let f = fields_of(list, CLAUSE_NUMBERS * i as usize);
+        let number = clause_fault(slots, written, f);
+        if number != 0 {
+            return refused(number, i);
+        }
+        written = with(written, f.out as u32);
+        i += 1;
+    }
+    Checked {
+        number: 0,
+        place: 0,
+        slots: slots,
+        clauses: count,
+    }
+}
+
+// Refusals 4, 3, then 5 to 9 clause by clause, of a lent list.
+pub fn check_list(slots: u32, list: &[i32]) -> Checked
+    ensures { λ r. ⌜ Answers r (readList slots (now (list .entry))) ⌝ }
+{
+    if list.len() % CLAUSE_NUMBERS != 0 {
+        return refused(4, 0);
+    }
+    let count = list.len() / CLAUSE_NUMBERS;
+    if !counts_ok(slots, count) {
+        return refused(3, 0);
+    }
+    list_clauses(slots, list, count as u32)
+}
+
+fn head_ok(s: &[u8]) -> bool
+    requires { do ⌜ 8 ≤ (← ⟦s.len()⟧) ⌝ }
+    ensures { λ r. ⌜ r ≡ headOk (now (s .entry)) ⌝ }
+{
+    has_mark(s, 0, b"TP") & ((s[2] == 1) & ((s[6] == 0) & (s[7] == 0)))
+}
+
+fn tape_clauses(slots: u32, tape: &[u8], count: u32) -> Checked
+    requires { do ⌜ (slots ≤ slotLimit) × ((count ≤ clauseLimit) × ((← ⟦tape.len()⟧) ≡ 8 + 10 * count)) ⌝ }
+    ensures { λ r. ⌜ Answers r (readClauses slots (rawsFrom count (drop 8 (now (tape .entry))))) ⌝ }
+{
+    let mut written = EMPTY;
+    let mut i: u32 = 0;
+    while i < count {
+        let f = fields_in(tape, HEAD_BYTES + CLAUSE_BYTES * i as usize);
+        let fault = clause_fault(slots, written, f);
+        if fault != 0 {
+            return refused(fault, i);
+        }
+        written = with(written, f.out as u32);
+        i += 1;
+    }
+    Checked {
+        number: 0,
+        place: 0,
+        slots: slots,
+        clauses: count,
+    }
+}
+
+// Refusals 1 to 4, then 5 to 9 clause by clause, of a lent tape.
+pub fn check_tape(tape: &[u8]) -> Checked
+    ensures { λ r. ⌜ Answers r (readTape (now (tape .entry))) ⌝ }
+{
+    if tape.len() < HEAD_BYTES {
+        return refused(1, 0);
+    }
+    if !head_ok(tape) {
+        return refused(2, 0);
+    }
+    let slots = byte_at(tape, 3);
+    let count = word_at(tape, 4);
+    if !counts_ok(slots, count as usize) {
+        return refused(3, 0);
+    }
+    if tape.len() != HEAD_BYTES + CLAUSE_BYTES * count as usize {
+        return refused(4, 0);
+    }
+    tape_clauses(slots, tape, count)
+}
