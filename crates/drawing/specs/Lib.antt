@@ -1,0 +1,3 @@
+-- What the drawing functions are held to.
+pub mod Draws
+pub mod Verdicts
