@@ -48,7 +48,7 @@ fn is_value(z: i64) -> bool
     z <= TOP
 }
 
-fn size_ok(n: u32) -> bool
+pub fn size_ok(n: u32) -> bool
     ensures { λ r. ⌜ r ≡ sizeOk n ⌝ }
 {
     if n < 1 {

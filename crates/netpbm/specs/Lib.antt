@@ -1,0 +1,4 @@
+-- What the calls on pictures promise.
+pub mod Appending
+pub mod FileParts
+pub mod Files

@@ -1,0 +1,3 @@
+// The Netpbm files made of pictures.
+pub mod decimal;
+pub mod file;
