@@ -24,8 +24,7 @@ pub record Kept (f : Fields) : Type 0 where
 
 -- What is told of a clause's fields holds the bound of each.
 pub all-kept : (f : Fields) {A B C D E U : Type 0}
-    → (A × small (f .opcode))
-    × ((B × small (f .out)) × ((C × small (f .left)) × ((D × small (f .right)) × ((E × small (f .constant)) × U))))
+    → (A × small (f .opcode)) × ((B × small (f .out)) × ((C × small (f .left)) × ((D × small (f .right)) × ((E × small (f .constant)) × U))))
     → Kept f
 all-kept f t =
     record {

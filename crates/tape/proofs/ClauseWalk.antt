@@ -10,9 +10,9 @@ use lib.IntN.{natAbs}
 use lib.Signed.{nonNeg}
 use mir.Syntax.{w32}
 use mir.Val.{Fits}
+use Rattle.rules.specs.Values.{firstOf, when}
 use lib.ListN.{length, length-map}
 use borrow.Author.Tests.{ne-eqb}
-use Rattle.rules.specs.Values.{firstOf, when}
 use Rattle.rules.specs.Tapes.{Raw, Fault, nat, slotLimit, isSlot, clauseFault, badSlot, isOpcode, badUnused, badConstant, badRead, faultFrom, readClauses, clauseOf}
 use Rattle.tape.specs.SlotSets.{IsSet}
 use Rattle.tape.specs.declared.check.Checked.{Checked}
@@ -43,7 +43,6 @@ no-fault n ns c e =
     (firstOf (when (badUnused c) 7) (firstOf (when (badConstant c) 8) (when (badRead ns c) 9))) e in
     slots-used n c line-6 .0
 
--- The same walk, its index and its rest written in another way.
 pub walk-to : {n : ℕ} {i j w : ℕ} {rest rest′ whole : List Raw} → i ≡ j → rest ≡ rest′ → Walk n i w rest whole
     → Walk n j w rest′ whole
 walk-to {n} p q k = record { written = k .written; holds = k .holds; same = sym (ap₂ (λ i r. faultFrom n i (k .written) r) p q) ∙ k .same }

@@ -50,7 +50,7 @@ fn counts_ok(slots: u32, clauses: usize) -> bool
 }
 
 // The clause whose five numbers start at `at`.
-fn fields_of(list: &[i32], at: usize) -> Fields
+pub fn fields_of(list: &[i32], at: usize) -> Fields
     requires { do ⌜ at + 5 ≤ (← ⟦list.len()⟧) ⌝ }
     ensures { λ r. ⌜ rawsOf (drop at (now (list .entry))) ≡ rawOf r ∷ rawsOf (drop (at + 5) (now (list .entry))) ⌝ }
 {

@@ -81,8 +81,7 @@ returns-2 : tie.Need-returns-2 Inv-loop μ-loop
 returns-2 c =
     let s = c .before .before in
     let n = s .pre .1 .1 in
-    let over = raws-end (s .args .list .now) (s .args .count) n (c .before .loop .i) (c .loop-test .left) in
-    done _ _ _ _ _ (walk-to refl over (c .before .loop .inv .1))
+    done _ _ _ _ _ (walk-to refl (raws-end (s .args .list .now) (s .args .count) n (c .before .loop .i) (c .loop-test .left)) (c .before .loop .inv .1))
     (raws-count (s .args .list .now) (s .args .count) n)
 
 pub list-clauses-spec : {M : Type 1} → statement M
