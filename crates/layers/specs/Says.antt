@@ -1,0 +1,56 @@
+-- What the public calls promise: number, place, count and every lent byte, for all inputs.
+use mathlib.Core.Path.{_≡_}
+use mathlib.Core.Bool.{Bool, true, false, _&&_, not}
+use mathlib.Core.List.{List}
+use lib.IntN.{ℤ}
+use Prim.Native.Nat.{ℕ, _*_}
+use lib.Dec.{eqb, ltb, leb}
+use lib.ListN.{length, replicate}
+use Rattle.rules.specs.Values.{pick, firstOf, when}
+use Rattle.rules.specs.Tapes.{Got, readTape, readList, tapeBytes, listOf}
+use Rattle.rules.specs.Drawings as D
+use Rattle.rules.specs.Pictures.{stride, sidesOk, picture, pictureSize, bitmapFile, heightFile}
+use Rattle.picture.specs.Shapes.{gridIn}
+use Rattle.picture.specs.declared.grid.Grid.{Grid}
+use Rattle.layers.specs.declared.Answer.{Answer}
+use Rattle.layers.specs.declared.Listed.{Listed}
+
+-- "A call returns number, place, count. Place is the clause index, from 0, in the tape or list at fault for 5 to 9,
+-- otherwise 0. A number other than 0 has count 0".
+pub record Answered (n p c : ℕ) (r : Answer) : Type 0 where
+  pub number : r .number ≡ n
+  pub place : r .place ≡ pick (leb 5 n && leb n 9) p 0
+  pub count : r .count ≡ pick (eqb n 0) c 0
+
+-- "every lent byte unchanged. A 0 overwrites the whole picture or output".
+abbrev pub written : {A : Type 0} → ℕ → List A → List A → List A
+written f b o = pick (eqb f 0) b o
+
+-- "Packing checks 4, 3, 5 to 9, 14; unpacking 1 to 9, 14".
+abbrev pub copyFault : {A : Type 0} → Got → List A → List A → ℕ
+copyFault g b o = firstOf (g .number) (when (not (eqb (length o) (length b))) 14)
+
+pub record PackSays (n : ℕ) (zs : List ℤ) (o o′ : List ℕ) (r : Answer) : Type 0 where
+  pub answer : let g = readList n zs in Answered (copyFault g (tapeBytes (g .tape)) o) (g .place) 0 r
+  pub out : let b = tapeBytes (readList n zs .tape) in o′ ≡ written (copyFault (readList n zs) b o) b o
+
+pub record UnpackSays (s : List ℕ) (o o′ : List ℤ) (r : Listed) : Type 0 where
+  pub answer : let g = readTape s in Answered (copyFault g (listOf (g .tape .clauses)) o) (g .place) 0 (r .answer)
+  pub slots : let g = readTape s in r .slots ≡ pick (eqb (copyFault g (listOf (g .tape .clauses)) o) 0) (g .tape .slots) 0
+  pub out : let b = listOf (readTape s .tape .clauses) in o′ ≡ written (copyFault (readTape s) b o) b o
+
+-- "file making 10, 12, 14": n is the picture's length as it must be, b the file.
+abbrev pub fileFault : ℕ → ℕ → ℕ → List ℕ → List ℕ → List ℕ → ℕ
+fileFault w h n p b o =
+    firstOf (when (not (sidesOk w h)) 10)
+    (firstOf (when (not (eqb (length p) n)) 12) (when (not (eqb (length o) (length b))) 14))
+
+pub record FileSays (w h n : ℕ) (p b o o′ : List ℕ) (r : Answer) : Type 0 where
+  pub answer : Answered (fileFault w h n p b o) 0 0 r
+  pub out : o′ ≡ written (fileFault w h n p b o) b o
+
+abbrev pub BitmapSays : ℕ → ℕ → List ℕ → List ℕ → List ℕ → Answer → Type 0
+BitmapSays w h p o o′ r = FileSays w h (h * stride w) p (bitmapFile w h p) o o′ r
+
+abbrev pub HeightsSay : ℕ → ℕ → List ℕ → List ℕ → List ℕ → Answer → Type 0
+HeightsSay w h p o o′ r = FileSays w h (w * h) p (heightFile w h p) o o′ r

@@ -1,0 +1,65 @@
+// The public calls. Each checks what it is lent, in the scope paper's order, and then calls.
+use tape::pack::pack;
+use tape::pack::unpack;
+ghost use Rattle.layers.specs.Says.{PackSays, UnpackSays, BitmapSays, HeightsSay};
+
+// The number of the paper's table, the clause at fault, and the clauses counted.
+#[repr(C)]
+pub struct Answer {
+    pub number: u8,
+    pub place: u32,
+    pub count: u64,
+}
+
+// The answer of unpacking, with the tape's slot count.
+#[repr(C)]
+pub struct Listed {
+    pub answer: Answer,
+    pub slots: u8,
+}
+
+pub fn pack_tape(slots: u32, list: &[i32], out: &mut [u8]) -> Answer
+    ensures { λ r. ⌜ PackSays slots (now (list .entry)) (now (out .entry)) (now (out .exit)) r ⌝ }
+{
+    let p = pack(slots, list, out);
+    Answer {
+        number: p.number,
+        place: p.place,
+        count: 0,
+    }
+}
+
+pub fn unpack_tape(tape: &[u8], out: &mut [i32]) -> Listed
+    ensures { λ r. ⌜ UnpackSays (now (tape .entry)) (now (out .entry)) (now (out .exit)) r ⌝ }
+{
+    let p = unpack(tape, out);
+    let answer = Answer {
+        number: p.number,
+        place: p.place,
+        count: 0,
+    };
+    Listed {
+        answer: answer,
+        slots: p.slots,
+    }
+}
+
+pub fn write_bitmap(width: u32, height: u32, picture: &[u8], out: &mut [u8]) -> Answer
+    ensures { λ r. ⌜ BitmapSays width height (now (picture .entry)) (now (out .entry)) (now (out .exit)) r ⌝ }
+{
+    Answer {
+        number: netpbm::file::write_bitmap(width, height, picture, out),
+        place: 0,
+        count: 0,
+    }
+}
+
+pub fn write_heights(width: u32, height: u32, picture: &[u16], out: &mut [u8]) -> Answer
+    ensures { λ r. ⌜ HeightsSay width height (now (picture .entry)) (now (out .entry)) (now (out .exit)) r ⌝ }
+{
+    Answer {
+        number: netpbm::file::write_heights(width, height, picture, out),
+        place: 0,
+        count: 0,
+    }
+}
