@@ -7,7 +7,7 @@ use Rattle.rules.specs.Values.{pick}
 use Rattle.layers.specs.declared.Answer.{Answer}
 use Rattle.layers.specs.Says.{Answered}
 
-no-figure : (t : Bool) → _≡_ {A = ℕ} 0 (pick t 0 0)
+pub no-figure : (t : Bool) → _≡_ {A = ℕ} 0 (pick t 0 0)
 no-figure true = refl
 no-figure false = refl
 

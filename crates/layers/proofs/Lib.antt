@@ -1,2 +1,4 @@
 -- What the proofs of the calls share.
 pub mod Answers
+pub mod Refusals
+pub mod Drawing

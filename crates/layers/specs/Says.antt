@@ -10,10 +10,13 @@ use Rattle.rules.specs.Values.{pick, firstOf, when}
 use Rattle.rules.specs.Tapes.{Got, readTape, readList, tapeBytes, listOf}
 use Rattle.rules.specs.Drawings as D
 use Rattle.rules.specs.Pictures.{stride, sidesOk, picture, pictureSize, bitmapFile, heightFile}
+use Rattle.code.specs.Unpacking.{Unpacked}
 use Rattle.picture.specs.Shapes.{gridIn}
 use Rattle.picture.specs.declared.grid.Grid.{Grid}
 use Rattle.layers.specs.declared.Answer.{Answer}
 use Rattle.layers.specs.declared.Listed.{Listed}
+use Rattle.layers.specs.declared.refusal.Refusal.{Refusal}
+use Rattle.layers.specs.declared.refusal.Prepared.{Prepared}
 
 -- "A call returns number, place, count. Place is the clause index, from 0, in the tape or list at fault for 5 to 9,
 -- otherwise 0. A number other than 0 has count 0".
@@ -54,3 +57,37 @@ BitmapSays w h p o o′ r = FileSays w h (h * stride w) p (bitmapFile w h p) o o
 
 abbrev pub HeightsSay : ℕ → ℕ → List ℕ → List ℕ → List ℕ → Answer → Type 0
 HeightsSay w h p o o′ r = FileSays w h (w * h) p (heightFile w h p) o o′ r
+
+-- "Drawing checks 1 to 4, then 5 to 9 clause by clause, then 10 to 13 (in full, 10 to 12)": n is the picture's length.
+abbrev pub drawFault : Bool → List ℕ → D.Grid → ℕ → ℕ
+drawFault isSolid s g n =
+    firstOf (readTape s .number)
+    (firstOf (D.gridFault isSolid g) (when (not (eqb n (pictureSize isSolid g))) 12))
+
+pub record Refused (isSolid : Bool) (s : List ℕ) (g : D.Grid) (n : ℕ) (r : Refusal) : Type 0 where
+  pub number : r .number ≡ drawFault isSolid s g n
+  pub place : r .place ≡ pick (leb 5 (drawFault isSolid s g n) && leb (drawFault isSolid s g n) 9) (readTape s .place) 0
+
+-- The refusal of a drawing, and where there is none the tape's clauses as words.
+pub record Prepares (isSolid : Bool) (s : List ℕ) (g : D.Grid) (n : ℕ) (ws ws′ : List ℕ) (r : Prepared) : Type 0 where
+  pub number : r .number ≡ drawFault isSolid s g n
+  pub place : r .place ≡ pick (leb 5 (drawFault isSolid s g n) && leb (drawFault isSolid s g n) 9) (readTape s .place) 0
+  pub words : r .number ≡ 0 → Unpacked s ws ws′ (r .clauses)
+
+-- The full drawing: the definition's picture and count.
+pub record FullSays (isSolid : Bool) (s : List ℕ) (d : Grid) (o o′ : List ℕ) (r : Answer) : Type 0 where
+  pub answer : let g = gridIn d isSolid in
+      Answered (drawFault isSolid s g (length o)) (readTape s .place) (D.fullCount (readTape s .tape) g) r
+  pub pixels : let g = gridIn d isSolid in
+      o′ ≡ written (drawFault isSolid s g (length o)) (picture isSolid g (D.drawn (readTape s .tape) g)) o
+
+-- The drawing by tiles: the walk's picture and count, and the work buffer cleared.
+abbrev pub tileFault : Bool → List ℕ → D.Grid → ℕ → ℕ → ℕ
+tileFault isSolid s g n m = firstOf (drawFault isSolid s g n) (when (ltb m D.workLimit) 13)
+
+pub record TilesSay (isSolid : Bool) (s : List ℕ) (d : Grid) (o o′ w w′ : List ℕ) (r : Answer) : Type 0 where
+  pub answer : let g = gridIn d isSolid in
+      Answered (tileFault isSolid s g (length o) (length w)) (readTape s .place) (D.walked (readTape s .tape) g .clauses) r
+  pub pixels : let g = gridIn d isSolid in
+      o′ ≡ written (tileFault isSolid s g (length o) (length w)) (picture isSolid g (D.walked (readTape s .tape) g .heights)) o
+  pub work : w′ ≡ written (tileFault isSolid s (gridIn d isSolid) (length o) (length w)) (replicate (length w) 0) w

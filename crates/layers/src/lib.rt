@@ -1,7 +1,12 @@
 // The public calls. Each checks what it is lent, in the scope paper's order, and then calls.
+mod refusal;
+
+use crate::refusal::prepare;
+use picture::grid::Grid;
 use tape::pack::pack;
 use tape::pack::unpack;
-ghost use Rattle.layers.specs.Says.{PackSays, UnpackSays, BitmapSays, HeightsSay};
+ghost use mathlib.Core.Bool.{true, false};
+ghost use Rattle.layers.specs.Says.{PackSays, UnpackSays, FullSays, BitmapSays, HeightsSay};
 
 // The number of the paper's table, the clause at fault, and the clauses counted.
 #[repr(C)]
@@ -41,6 +46,50 @@ pub fn unpack_tape(tape: &[u8], out: &mut [i32]) -> Listed
     Listed {
         answer: answer,
         slots: p.slots,
+    }
+}
+
+pub fn draw_flat(tape: &[u8], grid: Grid, picture: &mut [u8]) -> Answer
+    ensures { λ r. ⌜ FullSays false (now (tape .entry)) grid (now (picture .entry)) (now (picture .exit)) r ⌝ }
+{
+    let mut words = [0u64; 1024];
+    let ready = prepare(false, tape, grid, picture.len(), &mut words);
+    let number = ready.number;
+    let n = ready.clauses;
+    if number != 0 {
+        return Answer {
+            number: number,
+            place: ready.place,
+            count: 0,
+        };
+    }
+    let count = full_drawing::flat::draw_flat(&words[..n], grid, picture);
+    Answer {
+        number: 0,
+        place: 0,
+        count: count,
+    }
+}
+
+pub fn draw_solid(tape: &[u8], grid: Grid, picture: &mut [u16]) -> Answer
+    ensures { λ r. ⌜ FullSays true (now (tape .entry)) grid (now (picture .entry)) (now (picture .exit)) r ⌝ }
+{
+    let mut words = [0u64; 1024];
+    let ready = prepare(true, tape, grid, picture.len(), &mut words);
+    let number = ready.number;
+    let n = ready.clauses;
+    if number != 0 {
+        return Answer {
+            number: number,
+            place: ready.place,
+            count: 0,
+        };
+    }
+    let count = full_drawing::solid::draw_solid(&words[..n], grid, picture);
+    Answer {
+        number: 0,
+        place: 0,
+        count: count,
     }
 }
 

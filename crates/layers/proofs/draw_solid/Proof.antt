@@ -1,0 +1,63 @@
+-- Refused with every byte as it was, or the full drawing of the unpacked tape.
+use mathlib.Core.Path.{_≡_, refl, sym, _∙_}
+use mathlib.Core.Bool.{true}
+use Prim.Native.Nat.{_≤_}
+use lib.ListN.{length}
+use lib.Seq.{length-take-le}
+use Rattle.layers.proofs.Refusals.{solid-size}
+use Rattle.layers.proofs.Drawing.{ready, words-room, words-few, drawable, full-refused, full-done}
+use borrow.Author.Needs.{needs}
+use Rattle.layers.proofs.draw_solid.Statement.{statement}
+use Rattle.layers.proofs.draw_solid.Tie as tie
+
+-- The words of the tape are among those there are.
+fits : (c : tie.Else1) → (let p = c .before .before .prepare in p .result .clauses ≤ length (p .last .1 .1 .1 .1 .0))
+fits c = let p = c .before .before .prepare in words-room (p .ensures) (c .if1 .left) (p .kept .1 .1 .1 .1 .0)
+
+slice-aggregate-prepare : tie.Need-slice-aggregate-prepare
+slice-aggregate-prepare c = search needs
+
+prepare-requires : tie.Need-prepare-requires
+prepare-requires c κs = search needs
+
+returns : tie.Need-returns
+returns c =
+    full-refused true _ _ _ _ _ _ _ (c .before .before .prepare .ensures) refl (c .if1 .taken) refl refl
+
+array-share-prefix-words : tie.Need-array-share-prefix-words
+array-share-prefix-words c = fits c
+
+slice-aggregate-draw-solid : tie.Need-slice-aggregate-draw-solid
+slice-aggregate-draw-solid c = sym (length-take-le _ _ (fits (c .before)))
+
+draw-solid-requires : tie.Need-draw-solid-requires
+draw-solid-requires c κs =
+    let e = c .before .before in
+    let p = e .before .before .prepare in (
+      drawable (p .ensures) (e .if1 .left),
+      (
+        words-few (p .result .clauses) _ (fits e) (p .kept .1 .1 .1 .1 .0),
+        ready (p .ensures) (e .if1 .left) .size ∙ sym (solid-size true _ refl),
+      ),
+    )
+
+same-length : tie.Need-same-length
+same-length c = search needs
+
+returns-2 : tie.Need-returns-2
+returns-2 c =
+    let e = c .before .before .before .before .before in
+    full-done true _ _ _ _ _ _ _ _ (e .before .before .prepare .ensures) (e .if1 .left) (c .before .before .draw-solid .ensures) refl refl
+
+pub draw-solid-spec : {M : Type 1} → statement M
+draw-solid-spec =
+    tie.close
+    (tie.spec
+    slice-aggregate-prepare
+    prepare-requires
+    returns
+    array-share-prefix-words
+    slice-aggregate-draw-solid
+    draw-solid-requires
+    same-length
+    returns-2)
