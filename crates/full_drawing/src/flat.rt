@@ -57,7 +57,8 @@ pub fn draw_flat(code: &[u64], grid: Grid, picture: &mut [u8]) -> u64
     requires { ⌜ length (now picture) ≡ grid .height * strideOf (grid .width) ⌝ }
     ensures { λ r. ⌜ FullDrawn false (now (code .entry)) (gridIn grid false) (now (picture .exit)) r ⌝ }
 {
-    let row = stride(grid.width as usize);
+    let width = grid.width as usize;
+    let row = stride(width);
     let mut from = 0;
     let mut j = 0;
     while j < grid.height {

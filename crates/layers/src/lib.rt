@@ -2,11 +2,15 @@
 mod refusal;
 
 use crate::refusal::prepare;
+use picture::bits::clear;
 use picture::grid::Grid;
 use tape::pack::pack;
 use tape::pack::unpack;
 ghost use mathlib.Core.Bool.{true, false};
-ghost use Rattle.layers.specs.Says.{PackSays, UnpackSays, FullSays, BitmapSays, HeightsSay};
+ghost use Rattle.layers.specs.Says.{PackSays, UnpackSays, FullSays, TilesSay, BitmapSays, HeightsSay};
+
+// The least length of a work buffer.
+pub const WORK_LIMIT: usize = 32768;
 
 // The number of the paper's table, the clause at fault, and the clauses counted.
 #[repr(C)]
@@ -86,6 +90,66 @@ pub fn draw_solid(tape: &[u8], grid: Grid, picture: &mut [u16]) -> Answer
         };
     }
     let count = full_drawing::solid::draw_solid(&words[..n], grid, picture);
+    Answer {
+        number: 0,
+        place: 0,
+        count: count,
+    }
+}
+
+pub fn tile_flat(tape: &[u8], grid: Grid, picture: &mut [u8], work: &mut [u8]) -> Answer
+    ensures { λ r. ⌜ TilesSay false (now (tape .entry)) grid (now (picture .entry)) (now (picture .exit)) (now (work .entry)) (now (work .exit)) r ⌝ }
+{
+    let mut words = [0u64; 1024];
+    let ready = prepare(false, tape, grid, picture.len(), &mut words);
+    let number = ready.number;
+    let n = ready.clauses;
+    if number != 0 {
+        return Answer {
+            number: number,
+            place: ready.place,
+            count: 0,
+        };
+    }
+    if work.len() < WORK_LIMIT {
+        return Answer {
+            number: 13,
+            place: 0,
+            count: 0,
+        };
+    }
+    let count = flat_tiles::tiles::tile_flat(&words[..n], grid, picture, work);
+    clear(work);
+    Answer {
+        number: 0,
+        place: 0,
+        count: count,
+    }
+}
+
+pub fn tile_solid(tape: &[u8], grid: Grid, picture: &mut [u16], work: &mut [u8]) -> Answer
+    ensures { λ r. ⌜ TilesSay true (now (tape .entry)) grid (now (picture .entry)) (now (picture .exit)) (now (work .entry)) (now (work .exit)) r ⌝ }
+{
+    let mut words = [0u64; 1024];
+    let ready = prepare(true, tape, grid, picture.len(), &mut words);
+    let number = ready.number;
+    let n = ready.clauses;
+    if number != 0 {
+        return Answer {
+            number: number,
+            place: ready.place,
+            count: 0,
+        };
+    }
+    if work.len() < WORK_LIMIT {
+        return Answer {
+            number: 13,
+            place: 0,
+            count: 0,
+        };
+    }
+    let count = solid_tiles::tiles::tile_solid(&words[..n], grid, picture, work);
+    clear(work);
     Answer {
         number: 0,
         place: 0,

@@ -15,17 +15,17 @@ use Rattle.full_drawing.proofs.flat.draw_flat.Statement.{statement}
 use Rattle.full_drawing.proofs.flat.draw_flat.Tie as tie
 
 abbrev Inv-loop : tie.InvT-loop
-Inv-loop code grid picture₀ row from₀ j₀ picture from j =
+Inv-loop code grid picture₀ width row from₀ j₀ picture from j =
     Along code (packedLeft code (gridIn grid false)) (stride (grid .width)) (grid .height) 0 picture₀ picture j from
 
 abbrev μ-loop : tie.MeasureT-loop
-μ-loop code grid picture₀ row from₀ j₀ picture from j = grid .height - j
+μ-loop code grid picture₀ width row from₀ j₀ picture from j = grid .height - j
 
 grid-ok : (c : tie.Start Inv-loop μ-loop) → Accepted (c .args .grid) false
 grid-ok c = accepted (c .args .grid) false (c .pre .0 .accepted)
 
-cast-stride : tie.Need-cast-stride Inv-loop μ-loop
-cast-stride c = search needs
+cast-width : tie.Need-cast-width Inv-loop μ-loop
+cast-width c = search needs
 
 stride-requires : tie.Need-stride-requires Inv-loop μ-loop
 stride-requires c κs = grid-ok (c .before .before .before) .sizes .width .most
@@ -97,7 +97,7 @@ draw-flat-spec =
     (tie.spec
     Inv-loop
     μ-loop
-    cast-stride
+    cast-width
     stride-requires
     loop-holds
     draw-row-requires

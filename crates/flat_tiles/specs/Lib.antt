@@ -1,0 +1,2 @@
+-- What the functions of the flat drawing by tiles are held to.
+pub mod Flats

@@ -1,0 +1,164 @@
+-- Hidden, without material, or filled.
+use mathlib.Core.Path.{_≡_, refl, _∙_}
+use mathlib.Core.Bool.{true}
+use native.Mathlib.Omega.{arith}
+use mir.Syntax.{w32}
+use Rattle.rules.specs.Values.{Sample}
+use Rattle.rules.specs.Drawings.{sampleAt}
+use Rattle.rules.proofs.Words.{read, back}
+use Rattle.picture.specs.Shapes.{gridIn}
+use Rattle.picture.proofs.GridWords.{InWords, in-words}
+use Rattle.drawing.proofs.Signs.{sign}
+use Rattle.solid_tiles.proofs.CellLaws.{small}
+use Rattle.solid_tiles.proofs.LookLaws.{sound-runs}
+use Rattle.solid_tiles.proofs.SampleLaws.{at-words, pixel-most, pixel-in, x-value, y-value, z-value, sample-same, sample-ok, sample-hidden, sample-skips, sample-fills}
+use borrow.Author.Needs.{needs}
+use Rattle.solid_tiles.proofs.samples.visit_sample.Statement.{statement}
+use Rattle.solid_tiles.proofs.samples.visit_sample.Tie as tie
+use Rattle.solid_tiles.proofs.samples.visit_sample.Reads as reads
+use Rattle.solid_tiles.proofs.samples.visit_sample.Lts as lts
+use Rattle.code.proofs.run.run_values.Reads as run-values-reads
+use Rattle.picture.proofs.grid.sample.Reads as sample-reads
+
+-- The grid's numbers as words.
+told : (c : tie.After-struct-told) → InWords (c .before .before .before .before .before .before .args .grid)
+told c = in-words (c .struct-told .given)
+
+-- The sample that is made.
+abbrev start : tie.After-sample3 → tie.Start
+start c = c .before .before .before .before .before .before .before .before .before .before .before .before .before .before
+
+abbrev given : tie.After-sample3 → Sample
+given c =
+    record {
+      x = read w32 (c .before .before .before .before .before .before .sample .result);
+      y = read w32 (c .before .before .before .sample2 .result);
+      z = read w32 (c .sample3 .result);
+    }
+
+made : (c : tie.After-sample3)
+    → given c ≡ sampleAt (gridIn (start c .args .grid) true) (start c .args .x) (start c .args .y) (start c .args .z)
+made c =
+    let s = start c in
+    let f = told (c .before .before .before .before .before .before .before .before) in
+    let u = c .before .before .before .before .before .before .sample in
+    let v = c .before .before .before .sample2 in
+    let w = c .sample3 in
+    sample-same _ _ _ _ (s .pre .1 .1) (s .pre .1 .0 .fault) _
+    (back w32 _ (u .ok) (u .ensures ∙ at-words _ (f .xfirst) (f .xstep)))
+    (back w32 _ (v .ok) (v .ensures ∙ at-words _ (f .yfirst) (f .ystep)))
+    (back w32 _ (w .ok) (w .ensures ∙ at-words _ (f .zfirst) (f .zstep)))
+
+-- src/samples.rt:21:15
+mul-at : tie.Need-mul-at
+mul-at c = let s = c .before .before .before in omega (arith, pixel-most _ _ _ _ (s .pre .1 .1) (s .pre .1 .0 .fault))
+
+-- src/samples.rt:21:15
+add-at : tie.Need-add-at
+add-at c = let s = c .before .before .before in omega (arith, pixel-most _ _ _ _ (s .pre .1 .1) (s .pre .1 .0 .fault))
+
+-- src/samples.rt:21:14
+cast-at : tie.Need-cast-at
+cast-at c = let s = c .before .before .before in omega (arith, pixel-most _ _ _ _ (s .pre .1 .1) (s .pre .1 .0 .fault))
+
+-- src/samples.rt:22:19
+add-height : tie.Need-add-height
+add-height c = search needs
+
+-- src/samples.rt:22:18
+cast-height : tie.Need-cast-height
+cast-height c =
+    let s = c .before .before .before in
+    let d = small _ (s .pre .1 .0 .fault) in
+    let h = s .pre .1 .1 .z-in in
+    omega arith
+
+-- src/samples.rt:23:18
+mul-if1 : tie.Need-mul-if1
+mul-if1 c = let s = c .before .before .before in omega (arith, pixel-most _ _ _ _ (s .pre .1 .1) (s .pre .1 .0 .fault))
+
+-- src/samples.rt:23:18
+slice-read-if1 : tie.Need-slice-read-if1
+slice-read-if1 c = let s = c .before .before .before .before in pixel-in _ _ _ _ (s .pre .1 .1) (s .pre .1 .0 .fault) (s .pre .1 .0)
+
+-- src/samples.rt:24:9
+returns : tie.Need-returns
+returns c =
+    let s = c .before .before .before .before .before in
+    sample-hidden _ _ _ _ (s .pre .1 .1) (s .pre .1 .0) (s .pre .0) (omega arith)
+
+-- src/samples.rt:27:12
+sample-requires : tie.Need-sample-requires
+sample-requires c κs =
+    let s = c .before .before .before .before .before .before .before in
+    let f = told (c .before) in
+    rw (at-words _ (f .xfirst) (f .xstep)) (x-value _ _ _ _ (s .pre .1 .1) (s .pre .1 .0 .fault))
+
+-- src/samples.rt:28:12
+sample-requires-2 : tie.Need-sample-requires-2
+sample-requires-2 c κs =
+    let s = c .before .before .before .before .before .before .before .before .before .before in
+    let f = told (c .before .before .before .before) in
+    rw (at-words _ (f .yfirst) (f .ystep)) (y-value _ _ _ _ (s .pre .1 .1) (s .pre .1 .0 .fault))
+
+-- src/samples.rt:29:12
+sample-requires-3 : tie.Need-sample-requires-3
+sample-requires-3 c κs =
+    let s = c .before .before .before .before .before .before .before .before .before .before .before .before .before in
+    let f = told (c .before .before .before .before .before .before .before) in
+    rw (at-words _ (f .zfirst) (f .zstep)) (z-value _ _ _ _ (s .pre .1 .1) (s .pre .1 .0 .fault))
+
+-- src/samples.rt:32:9
+run-values-requires : tie.Need-run-values-requires
+run-values-requires c κs =
+    (sound-runs (start c .pre .0), sample-ok _ _ _ _ (start c .pre .1 .1) (start c .pre .1 .0 .fault) _ (made c))
+
+-- src/samples.rt:34:9
+mul-picture : tie.Need-mul-picture
+mul-picture c = let s = c .before .before .before .before .before .before .before .before .before .before .before .before .before .before .before .before in omega (arith, pixel-most _ _ _ _ (s .pre .1 .1) (s .pre .1 .0 .fault))
+
+-- src/samples.rt:34:9
+slice-write-picture : tie.Need-slice-write-picture
+slice-write-picture c = let s = c .before .before .before .before .before .before .before .before .before .before .before .before .before .before .before .before in pixel-in _ _ _ _ (s .pre .1 .1) (s .pre .1 .0 .fault) (s .pre .1 .0)
+
+-- src/samples.rt:35:9
+same-length : tie.Need-same-length
+same-length c = search needs
+
+-- src/samples.rt:35:9
+returns-2 : tie.Need-returns-2
+returns-2 c =
+    let v = c .before in
+    let s = start (v .before) in
+    sample-fills _ _ _ _ (s .pre .1 .1) (s .pre .1 .0) (s .pre .0) (omega (arith, v .before .before .before .before .before .before .before .before .before .before .if1 .left)) _ (made (v .before)) _ (v .run-values .ensures)
+    (sign (v .run-values .result) (v .run-values .result) _ (record { sfits = v .run-values .ok }) (c .if2 .taken) refl) _ refl
+
+-- src/samples.rt:15:1
+returns-3 : tie.Need-returns-3
+returns-3 c =
+    let v = c .before in
+    let s = start (v .before) in
+    sample-skips _ _ _ _ (s .pre .1 .1) (s .pre .1 .0) (s .pre .0) (omega (arith, v .before .before .before .before .before .before .before .before .before .before .if1 .left)) _ (made (v .before)) _ (v .run-values .ensures)
+    (sign (v .run-values .result) (v .run-values .result) _ (record { sfits = v .run-values .ok }) (c .if2 .left) refl)
+
+pub visit-sample-spec : {M : Type 1} → statement M
+visit-sample-spec =
+    tie.close
+    (tie.spec
+    mul-at
+    add-at
+    cast-at
+    add-height
+    cast-height
+    mul-if1
+    slice-read-if1
+    returns
+    sample-requires
+    sample-requires-2
+    sample-requires-3
+    run-values-requires
+    mul-picture
+    slice-write-picture
+    same-length
+    returns-2
+    returns-3)

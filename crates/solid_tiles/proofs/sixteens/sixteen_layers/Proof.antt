@@ -1,0 +1,140 @@
+-- The layers, from the greatest z down.
+use mathlib.Core.Path.{_≡_, refl, _∙_}
+use Prim.Native.Nat.{_-_}
+use native.Mathlib.Omega.{arith}
+use lib.ListN.{length}
+use Rattle.drawing.proofs.Children.{layers-start, layers-step, layers-end}
+use Rattle.solid_tiles.specs.Walks.{below16}
+use Rattle.solid_tiles.proofs.CellLaws.{small}
+use Rattle.solid_tiles.proofs.Places.{LayersPlace, left-from, left-list, left-done, ready-again}
+use Rattle.solid_tiles.proofs.sixteens.sixteen_layers.Statement.{statement}
+use Rattle.solid_tiles.proofs.sixteens.sixteen_layers.Tie as tie
+
+abbrev Inv-loop : tie.InvT-loop
+Inv-loop code grid parent picture₀ choices₀ second₀ third₀ count₀ z₀ picture choices second third count z =
+    LayersPlace 16 4 4260864 code grid below16 (parent .x) (parent .y) (parent .z) (parent .xend) (parent .yend) (parent .zend) picture₀ picture count z
+    × (length choices ≡ length choices₀)
+    × (length second ≡ length second₀)
+    × (length third ≡ length third₀)
+
+abbrev μ-loop : tie.MeasureT-loop
+μ-loop code grid parent picture₀ choices₀ second₀ third₀ count₀ z₀ picture choices second third count z = z - parent .z
+
+sub-z : tie.Need-sub-z Inv-loop μ-loop
+sub-z c = let s = c .before .before .before .before .before .before in let p = s .pre .1 in let d = small _ (p .0 .fault) in omega arith
+
+add-z : tie.Need-add-z Inv-loop μ-loop
+add-z c = let s = c .before .before .before .before .before .before in let p = s .pre .1 in let d = small _ (p .0 .fault) in omega arith
+
+mul-z : tie.Need-mul-z Inv-loop μ-loop
+mul-z c = let s = c .before .before .before .before .before .before in let p = s .pre .1 in let d = small _ (p .0 .fault) in omega arith
+
+add-z-2 : tie.Need-add-z-2 Inv-loop μ-loop
+add-z-2 c = let s = c .before .before .before .before .before .before .before in let p = s .pre .1 in let d = small _ (p .0 .fault) in omega arith
+
+loop-holds : tie.Need-loop-holds Inv-loop μ-loop
+loop-holds c =
+    let s = c .before .before .before .before .before .before .before in
+    let p = s .pre .1 .1 in (
+      record {
+        left = left-from _ (layers-start 4 4 _ _ _ 16 _ _ (omega arith) _ _ (omega arith) (omega arith) (omega arith) (omega arith));
+        from = omega arith;
+        most = omega arith;
+        even = omega arith;
+        to = omega arith;
+        within = omega arith;
+        size = refl;
+      },
+      refl,
+      refl,
+      refl,
+    )
+
+sub-z-2 : tie.Need-sub-z-2 Inv-loop μ-loop
+sub-z-2 c = omega arith
+
+sixteen-rows-requires : tie.Need-sixteen-rows-requires Inv-loop μ-loop
+sixteen-rows-requires c κs =
+    let s = c .before .before .before .before .before .before .before .before .before .before .before .before .before .before in
+    let g = c .before .before .before .before .before .before .loop .inv in
+    let p = s .pre .1 .1 in
+    (s .pre .0, (ready-again (s .pre .1 .0) (g .0 .size), (p .0, ((p .1 .0, omega arith), (omega arith, omega arith, omega arith)))))
+
+add-count : tie.Need-add-count Inv-loop μ-loop
+add-count c =
+    let v = c .before .before .before .before .before .before .before .before in
+    let t = v .before .before .before .before .before in
+    let g = t .before .before .loop .inv in
+    let i = g .0 in
+    let p = t .before .before .before .before .before .before .before .before .before .before .pre .1 in
+    omega (arith, v .sixteen-rows .ensures .bound)
+
+loop-less : tie.Need-loop-less Inv-loop μ-loop
+loop-less c =
+    let v = c .before .before .before .before .before .before .before .before in
+    let t = v .before .before .before .before .before in
+    let g = t .before .before .loop .inv in
+    let i = g .0 in
+    let p = t .before .before .before .before .before .before .before .before .before .before .pre .1 in
+    omega arith
+
+loop-again : tie.Need-loop-again Inv-loop μ-loop
+loop-again c =
+    let v = c .before .before .before .before .before .before .before .before in
+    let t = v .before .before .before .before .before in
+    let g = t .before .before .loop .inv in
+    let i = g .0 in
+    let p = t .before .before .before .before .before .before .before .before .before .before .pre .1 in (
+      record {
+        left = left-list (layers-step 4 4 _ _ _ 16 _ _ (omega arith) _ (t .if1 .taken) (i .within) (i .even)) (i .left) (v .sixteen-rows .ensures);
+        from = omega arith;
+        most = omega (arith, v .sixteen-rows .ensures .bound);
+        even = omega arith;
+        to = omega arith;
+        within = omega arith;
+        size = v .sixteen-rows .kept .1 .1 .1 .1 .0 ∙ i .size;
+      },
+      v .sixteen-rows .kept .1 .1 .1 .1 .1 .0 ∙ g .1,
+      v .sixteen-rows .kept .1 .1 .1 .1 .1 .1 .0 ∙ g .2,
+      v .sixteen-rows .kept .1 .1 .1 .1 .1 .1 .1 .0 ∙ g .3,
+    )
+
+same-length : tie.Need-same-length Inv-loop μ-loop
+same-length c = c .before .before .loop .inv .0 .size
+
+same-length-2 : tie.Need-same-length-2 Inv-loop μ-loop
+same-length-2 c = c .before .before .loop .inv .1
+
+same-length-3 : tie.Need-same-length-3 Inv-loop μ-loop
+same-length-3 c = c .before .before .loop .inv .2
+
+same-length-4 : tie.Need-same-length-4 Inv-loop μ-loop
+same-length-4 c = c .before .before .loop .inv .3
+
+returns : tie.Need-returns Inv-loop μ-loop
+returns c =
+    let i = c .before .before .loop .inv .0 in
+    let p = c .before .before .before .before .before .before .before .before .before .before .pre .1 in
+    left-done (layers-end 4 4 _ _ _ 16 _ _ (omega arith) _ (omega arith)) (omega arith) (i .left)
+
+pub sixteen-layers-spec : {M : Type 1} → statement M
+sixteen-layers-spec =
+    tie.close
+    (tie.spec
+    Inv-loop
+    μ-loop
+    sub-z
+    add-z
+    mul-z
+    add-z-2
+    loop-holds
+    sub-z-2
+    sixteen-rows-requires
+    add-count
+    loop-less
+    loop-again
+    same-length
+    same-length-2
+    same-length-3
+    same-length-4
+    returns)

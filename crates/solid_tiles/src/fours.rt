@@ -1,0 +1,116 @@
+// Side 4: the regions of side 4 in one of side 16.
+use crate::cell::Cell;
+use crate::cell::cell_at;
+use crate::look::Seen;
+use crate::look::look;
+use crate::samples::sample_layers;
+use picture::grid::Grid;
+ghost use mathlib.Core.Path.{_≡_};
+ghost use Prim.Native.Nat.{_<_, _≤_};
+ghost use lib.ListN.{length};
+ghost use Rattle.rules.specs.Drawings.{region, alongX, alongY, alongZ};
+ghost use Rattle.drawing.specs.Verdicts.{Sound};
+ghost use Rattle.solid_tiles.specs.Cells.{Ready, InGrid, CellOk};
+ghost use Rattle.solid_tiles.specs.Walks.{below4, Visits, Folds};
+
+fn visit_four(
+    code: &[u64],
+    grid: Grid,
+    x: u32,
+    y: u32,
+    z: u32,
+    picture: &mut [u16],
+    choices: &mut [u8],
+    third: &mut [u64],
+) -> u64
+    requires { ⌜ Sound (now code) ⌝ }
+    requires { ⌜ Ready grid (now picture) ⌝ }
+    requires { ⌜ InGrid grid x y z ⌝ }
+    requires { ⌜ (1024 ≤ length (now choices)) × (1024 ≤ length (now third)) ⌝ }
+    ensures { λ r. ⌜ Visits 66560 (now (code .entry)) grid below4 (region x y z 4) (now (picture .entry)) (now (picture .exit)) r ⌝ }
+{
+    let cell = cell_at(grid, x, y, z, 4);
+    let seen = look(code, grid, cell, picture, choices, third);
+    match seen {
+        Seen::Done(count) => count,
+        Seen::Open(start) => {
+            let inside = sample_layers(&third[start..], grid, cell, picture);
+            code.len() as u64 + inside
+        }
+    }
+}
+
+fn four_row(
+    code: &[u64],
+    grid: Grid,
+    parent: Cell,
+    y: u32,
+    z: u32,
+    picture: &mut [u16],
+    choices: &mut [u8],
+    third: &mut [u64],
+) -> u64
+    requires { ⌜ Sound (now code) ⌝ }
+    requires { ⌜ Ready grid (now picture) ⌝ }
+    requires { ⌜ CellOk grid parent ⌝ }
+    requires { ⌜ (parent .side ≡ 16) × (y < parent .yend) × (z < parent .zend) ⌝ }
+    requires { ⌜ (1024 ≤ length (now choices)) × (1024 ≤ length (now third)) ⌝ }
+    ensures { λ r. ⌜ Folds 266240 (now (code .entry)) grid below4 (alongX 4 (parent .x) y z 4 (parent .xend)) (now (picture .entry)) (now (picture .exit)) r ⌝ }
+{
+    let mut count: u64 = 0;
+    let mut x = parent.x;
+    while x < parent.xend {
+        count += visit_four(code, grid, x, y, z, picture, choices, third);
+        x += 4;
+    }
+    count
+}
+
+fn four_rows(
+    code: &[u64],
+    grid: Grid,
+    parent: Cell,
+    z: u32,
+    picture: &mut [u16],
+    choices: &mut [u8],
+    third: &mut [u64],
+) -> u64
+    requires { ⌜ Sound (now code) ⌝ }
+    requires { ⌜ Ready grid (now picture) ⌝ }
+    requires { ⌜ CellOk grid parent ⌝ }
+    requires { ⌜ (parent .side ≡ 16) × (z < parent .zend) ⌝ }
+    requires { ⌜ (1024 ≤ length (now choices)) × (1024 ≤ length (now third)) ⌝ }
+    ensures { λ r. ⌜ Folds 1064960 (now (code .entry)) grid below4 (alongY 4 4 (parent .x) (parent .y) z 4 (parent .xend) (parent .yend)) (now (picture .entry)) (now (picture .exit)) r ⌝ }
+{
+    let mut count: u64 = 0;
+    let mut y = parent.y;
+    while y < parent.yend {
+        count += four_row(code, grid, parent, y, z, picture, choices, third);
+        y += 4;
+    }
+    count
+}
+
+pub fn four_layers(
+    code: &[u64],
+    grid: Grid,
+    parent: Cell,
+    picture: &mut [u16],
+    choices: &mut [u8],
+    third: &mut [u64],
+) -> u64
+    requires { ⌜ Sound (now code) ⌝ }
+    requires { ⌜ Ready grid (now picture) ⌝ }
+    requires { ⌜ CellOk grid parent ⌝ }
+    requires { ⌜ parent .side ≡ 16 ⌝ }
+    requires { ⌜ (1024 ≤ length (now choices)) × (1024 ≤ length (now third)) ⌝ }
+    ensures { λ r. ⌜ Folds 4259840 (now (code .entry)) grid below4 (alongZ 4 4 (parent .x) (parent .y) (parent .z) 4 (parent .xend) (parent .yend) (parent .zend)) (now (picture .entry)) (now (picture .exit)) r ⌝ }
+{
+    let mut count: u64 = 0;
+    let mut z = parent.z + (parent.zend - parent.z + 3) / 4 * 4;
+    while parent.z < z {
+        z -= 4;
+        count += four_rows(code, grid, parent, z, picture, choices, third);
+    }
+    count
+}

@@ -1,0 +1,87 @@
+// Side 1: the samples of a region of side 4, run on values with that region's short tape.
+use crate::cell::Cell;
+use code::run::run_values;
+use fixed::clause::Sample;
+use picture::grid::Grid;
+use picture::grid::sample;
+ghost use mathlib.Core.Path.{_≡_};
+ghost use mathlib.Core.List.{[]};
+ghost use Prim.Native.Nat.{_<_};
+ghost use Rattle.rules.specs.Drawings.{region, alongX, alongY, alongZ};
+ghost use Rattle.drawing.specs.Verdicts.{Sound};
+ghost use Rattle.solid_tiles.specs.Cells.{Ready, InGrid, CellOk};
+ghost use Rattle.solid_tiles.specs.Walks.{Visits, Folds};
+
+fn visit_sample(code: &[u64], grid: Grid, x: u32, y: u32, z: u32, picture: &mut [u16]) -> u64
+    requires { ⌜ Sound (now code) ⌝ }
+    requires { ⌜ Ready grid (now picture) ⌝ }
+    requires { ⌜ InGrid grid x y z ⌝ }
+    ensures { λ r. ⌜ Visits 1024 (now (code .entry)) grid [] (region x y z 1) (now (picture .entry)) (now (picture .exit)) r ⌝ }
+{
+    let at = (y * grid.width + x) as usize;
+    let height = (z + 1) as u16;
+    if height <= picture[at] {
+        return 0;
+    }
+    let s = Sample {
+        x: sample(grid.xfirst, grid.xstep, x),
+        y: sample(grid.yfirst, grid.ystep, y),
+        z: sample(grid.zfirst, grid.zstep, z),
+    };
+    let count = code.len() as u64;
+    let value = run_values(code, s);
+    if value < 0 {
+        picture[at] = height;
+        return count;
+    }
+    count
+}
+
+// One row of samples of the parent. Several at once can stand behind this contract.
+fn sample_row(code: &[u64], grid: Grid, parent: Cell, y: u32, z: u32, picture: &mut [u16]) -> u64
+    requires { ⌜ Sound (now code) ⌝ }
+    requires { ⌜ Ready grid (now picture) ⌝ }
+    requires { ⌜ CellOk grid parent ⌝ }
+    requires { ⌜ (parent .side ≡ 4) × (y < parent .yend) × (z < parent .zend) ⌝ }
+    ensures { λ r. ⌜ Folds 4096 (now (code .entry)) grid [] (alongX 4 (parent .x) y z 1 (parent .xend)) (now (picture .entry)) (now (picture .exit)) r ⌝ }
+{
+    let mut count: u64 = 0;
+    let mut x = parent.x;
+    while x < parent.xend {
+        count += visit_sample(code, grid, x, y, z, picture);
+        x += 1;
+    }
+    count
+}
+
+fn sample_rows(code: &[u64], grid: Grid, parent: Cell, z: u32, picture: &mut [u16]) -> u64
+    requires { ⌜ Sound (now code) ⌝ }
+    requires { ⌜ Ready grid (now picture) ⌝ }
+    requires { ⌜ CellOk grid parent ⌝ }
+    requires { ⌜ (parent .side ≡ 4) × (z < parent .zend) ⌝ }
+    ensures { λ r. ⌜ Folds 16384 (now (code .entry)) grid [] (alongY 4 4 (parent .x) (parent .y) z 1 (parent .xend) (parent .yend)) (now (picture .entry)) (now (picture .exit)) r ⌝ }
+{
+    let mut count: u64 = 0;
+    let mut y = parent.y;
+    while y < parent.yend {
+        count += sample_row(code, grid, parent, y, z, picture);
+        y += 1;
+    }
+    count
+}
+
+pub fn sample_layers(code: &[u64], grid: Grid, parent: Cell, picture: &mut [u16]) -> u64
+    requires { ⌜ Sound (now code) ⌝ }
+    requires { ⌜ Ready grid (now picture) ⌝ }
+    requires { ⌜ CellOk grid parent ⌝ }
+    requires { ⌜ parent .side ≡ 4 ⌝ }
+    ensures { λ r. ⌜ Folds 65536 (now (code .entry)) grid [] (alongZ 4 4 (parent .x) (parent .y) (parent .z) 1 (parent .xend) (parent .yend) (parent .zend)) (now (picture .entry)) (now (picture .exit)) r ⌝ }
+{
+    let mut count: u64 = 0;
+    let mut z = parent.zend;
+    while parent.z < z {
+        z -= 1;
+        count += sample_rows(code, grid, parent, z, picture);
+    }
+    count
+}

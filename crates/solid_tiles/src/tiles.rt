@@ -1,0 +1,178 @@
+// Side 64: the tiles of the grid, and the whole drawing.
+use crate::cell::Cell;
+use crate::cell::cell_at;
+use crate::look::Seen;
+use crate::look::look;
+use crate::sixteens::sixteen_layers;
+use picture::grid::Grid;
+use picture::heights::clear;
+ghost use mathlib.Core.Path.{_≡_};
+ghost use Prim.Native.Nat.{_<_, _≤_};
+ghost use lib.ListN.{length};
+ghost use Rattle.rules.specs.Drawings.{region, alongX, alongY, alongZ};
+ghost use Rattle.drawing.specs.Verdicts.{Sound};
+ghost use Rattle.solid_tiles.specs.Cells.{Ready, InGrid, CellOk};
+ghost use Rattle.solid_tiles.specs.Walks.{below64, Visits, Folds, Walked};
+
+fn visit_tile(
+    code: &[u64],
+    grid: Grid,
+    x: u32,
+    y: u32,
+    z: u32,
+    picture: &mut [u16],
+    choices: &mut [u8],
+    first: &mut [u64],
+    second: &mut [u64],
+    third: &mut [u64],
+) -> u64
+    requires { ⌜ Sound (now code) ⌝ }
+    requires { ⌜ Ready grid (now picture) ⌝ }
+    requires { ⌜ InGrid grid x y z ⌝ }
+    requires { ⌜ (1024 ≤ length (now choices)) × (1024 ≤ length (now first)) × (1024 ≤ length (now second)) × (1024 ≤ length (now third)) ⌝ }
+    ensures { λ r. ⌜ Visits 272696320 (now (code .entry)) grid below64 (region x y z 64) (now (picture .entry)) (now (picture .exit)) r ⌝ }
+{
+    let cell = cell_at(grid, x, y, z, 64);
+    let seen = look(code, grid, cell, picture, choices, first);
+    match seen {
+        Seen::Done(count) => count,
+        Seen::Open(start) => {
+            let inside = sixteen_layers(
+                &first[start..],
+                grid,
+                cell,
+                picture,
+                choices,
+                second,
+                third,
+            );
+            code.len() as u64 + inside
+        }
+    }
+}
+
+fn tile_row(
+    code: &[u64],
+    grid: Grid,
+    parent: Cell,
+    y: u32,
+    z: u32,
+    picture: &mut [u16],
+    choices: &mut [u8],
+    first: &mut [u64],
+    second: &mut [u64],
+    third: &mut [u64],
+) -> u64
+    requires { ⌜ Sound (now code) ⌝ }
+    requires { ⌜ Ready grid (now picture) ⌝ }
+    requires { ⌜ CellOk grid parent ⌝ }
+    requires { ⌜ (parent .side ≡ 512) × (y < parent .yend) × (z < parent .zend) ⌝ }
+    requires { ⌜ (1024 ≤ length (now choices)) × (1024 ≤ length (now first)) × (1024 ≤ length (now second)) × (1024 ≤ length (now third)) ⌝ }
+    ensures { λ r. ⌜ Folds 2181570560 (now (code .entry)) grid below64 (alongX 8 (parent .x) y z 64 (parent .xend)) (now (picture .entry)) (now (picture .exit)) r ⌝ }
+{
+    let mut count: u64 = 0;
+    let mut x = parent.x;
+    while x < parent.xend {
+        count += visit_tile(code, grid, x, y, z, picture, choices, first, second, third);
+        x += 64;
+    }
+    count
+}
+
+fn tile_rows(
+    code: &[u64],
+    grid: Grid,
+    parent: Cell,
+    z: u32,
+    picture: &mut [u16],
+    choices: &mut [u8],
+    first: &mut [u64],
+    second: &mut [u64],
+    third: &mut [u64],
+) -> u64
+    requires { ⌜ Sound (now code) ⌝ }
+    requires { ⌜ Ready grid (now picture) ⌝ }
+    requires { ⌜ CellOk grid parent ⌝ }
+    requires { ⌜ (parent .side ≡ 512) × (z < parent .zend) ⌝ }
+    requires { ⌜ (1024 ≤ length (now choices)) × (1024 ≤ length (now first)) × (1024 ≤ length (now second)) × (1024 ≤ length (now third)) ⌝ }
+    ensures { λ r. ⌜ Folds 17452564480 (now (code .entry)) grid below64 (alongY 8 8 (parent .x) (parent .y) z 64 (parent .xend) (parent .yend)) (now (picture .entry)) (now (picture .exit)) r ⌝ }
+{
+    let mut count: u64 = 0;
+    let mut y = parent.y;
+    while y < parent.yend {
+        count += tile_row(
+            code,
+            grid,
+            parent,
+            y,
+            z,
+            picture,
+            choices,
+            first,
+            second,
+            third,
+        );
+        y += 64;
+    }
+    count
+}
+
+pub fn tile_layers(
+    code: &[u64],
+    grid: Grid,
+    parent: Cell,
+    picture: &mut [u16],
+    choices: &mut [u8],
+    first: &mut [u64],
+    second: &mut [u64],
+    third: &mut [u64],
+) -> u64
+    requires { ⌜ Sound (now code) ⌝ }
+    requires { ⌜ Ready grid (now picture) ⌝ }
+    requires { ⌜ CellOk grid parent ⌝ }
+    requires { ⌜ parent .side ≡ 512 ⌝ }
+    requires { ⌜ (1024 ≤ length (now choices)) × (1024 ≤ length (now first)) × (1024 ≤ length (now second)) × (1024 ≤ length (now third)) ⌝ }
+    ensures { λ r. ⌜ Folds 139620515840 (now (code .entry)) grid below64 (alongZ 8 8 (parent .x) (parent .y) (parent .z) 64 (parent .xend) (parent .yend) (parent .zend)) (now (picture .entry)) (now (picture .exit)) r ⌝ }
+{
+    let mut count: u64 = 0;
+    let mut z = parent.z + (parent.zend - parent.z + 63) / 64 * 64;
+    while parent.z < z {
+        z -= 64;
+        count += tile_rows(
+            code,
+            grid,
+            parent,
+            z,
+            picture,
+            choices,
+            first,
+            second,
+            third,
+        );
+    }
+    count
+}
+
+// The whole drawing, whatever the picture held. The level buffers are made here, once a call.
+pub fn tile_solid(code: &[u64], grid: Grid, picture: &mut [u16], choices: &mut [u8]) -> u64
+    requires { ⌜ Sound (now code) ⌝ }
+    requires { ⌜ Ready grid (now picture) ⌝ }
+    requires { ⌜ 1024 ≤ length (now choices) ⌝ }
+    ensures { λ r. ⌜ Walked (now (code .entry)) grid (now (picture .exit)) r ⌝ }
+{
+    clear(picture);
+    let all = cell_at(grid, 0, 0, 0, 512);
+    let mut first = [0u64; 1024];
+    let mut second = [0u64; 1024];
+    let mut third = [0u64; 1024];
+    tile_layers(
+        code,
+        grid,
+        all,
+        picture,
+        choices,
+        &mut first,
+        &mut second,
+        &mut third,
+    )
+}
