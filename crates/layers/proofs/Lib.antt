@@ -3,3 +3,4 @@ pub mod Answers
 pub mod Refusals
 pub mod Drawing
 pub mod Tiling
+pub mod DemandThree
