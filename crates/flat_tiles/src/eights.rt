@@ -10,7 +10,8 @@ ghost use lib.ListN.{length};
 ghost use Rattle.rules.specs.Drawings.{region, visit, alongX, alongY};
 ghost use Rattle.flat_tiles.specs.Flats.{flatIn, Given, Block, Begins, visits, Drawn};
 
-pub fn visit_eight(
+// One region, with the tape that it has: its tile's short one.
+fn visit_eight(
     code: &[u64],
     grid: Grid,
     x: u32,
@@ -38,7 +39,7 @@ pub fn visit_eight(
     }
 }
 
-pub fn eight_row(
+fn eight_row(
     code: &[u64],
     grid: Grid,
     x: u32,

@@ -10,6 +10,7 @@ ghost use lib.ListN.{length};
 ghost use Rattle.rules.specs.Drawings.{lesser as lesserOf, region};
 ghost use Rattle.flat_tiles.specs.Flats.{Given, Block, Looked};
 
+// Where it is cut, the picture is as it was, and the short tape's words start there in `next`.
 pub fn look(
     code: &[u64],
     grid: Grid,

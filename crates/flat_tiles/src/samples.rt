@@ -15,7 +15,7 @@ ghost use Rattle.drawing.specs.Verdicts.{Sound};
 ghost use Rattle.flat_tiles.specs.Flats.{flatIn, Good, Given, Part, Block, materials, visits, Drawn};
 
 // The samples x to xend of row y, the first in the highest bit: 1 is material.
-pub fn row_byte(code: &[u64], grid: Grid, x: u32, xend: u32, y: u32) -> u8
+fn row_byte(code: &[u64], grid: Grid, x: u32, xend: u32, y: u32) -> u8
     requires { ⌜ Sound (now code) ⌝ }
     requires { ⌜ Good grid ⌝ }
     requires { ⌜ Part grid x xend y (y + 1) ⌝ }
@@ -34,7 +34,7 @@ pub fn row_byte(code: &[u64], grid: Grid, x: u32, xend: u32, y: u32) -> u8
 }
 
 // One row of the samples of a region of side 8, each counted as a run of the words.
-pub fn sample_row(code: &[u64], grid: Grid, x: u32, xend: u32, y: u32, picture: &mut [u8]) -> u64
+fn sample_row(code: &[u64], grid: Grid, x: u32, xend: u32, y: u32, picture: &mut [u8]) -> u64
     requires { ⌜ Given (now code) grid (now picture) ⌝ }
     requires { ⌜ Block grid 8 x xend y (y + 1) ⌝ }
     ensures { λ r. ⌜ Drawn grid (now (code .entry)) (visits [] grid (alongX 8 x y 0 1 xend)) (now (picture .entry)) (now (picture .exit)) r

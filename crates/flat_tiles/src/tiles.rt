@@ -15,7 +15,8 @@ ghost use Rattle.rules.specs.Pictures.{stride};
 ghost use Rattle.drawing.specs.Verdicts.{Sound};
 ghost use Rattle.flat_tiles.specs.Flats.{flatIn, Given, Begins, visits, Drawn, Walked};
 
-pub fn visit_tile(
+// One tile, with the whole tape; its short tape goes to `first`, those of its regions of side 8 to `second`.
+fn visit_tile(
     code: &[u64],
     grid: Grid,
     x: u32,
@@ -44,7 +45,7 @@ pub fn visit_tile(
     }
 }
 
-pub fn tile_row(
+fn tile_row(
     code: &[u64],
     grid: Grid,
     y: u32,
@@ -69,7 +70,7 @@ pub fn tile_row(
     count
 }
 
-pub fn tile_rows(
+fn tile_rows(
     code: &[u64],
     grid: Grid,
     picture: &mut [u8],

@@ -1,0 +1,82 @@
+// The public calls for C and Rust: a slice is a pointer and then a length. Each promises what the call that it wraps does.
+use layers::Answer;
+use layers::Listed;
+use picture::grid::Grid;
+ghost use mathlib.Core.Bool.{true, false};
+ghost use Rattle.layers.specs.Says.{PackSays, UnpackSays, FullSays, TilesSay, BitmapSays, HeightsSay};
+
+#[no_mangle]
+pub extern "C" fn layers_pack_tape(slots: u32, list: &[i32], out: &mut [u8]) -> Answer
+    ensures { λ r. ⌜ PackSays slots (now (list .entry)) (now (out .entry)) (now (out .exit)) r ⌝ }
+{
+    layers::pack_tape(slots, list, out)
+}
+
+#[no_mangle]
+pub extern "C" fn layers_unpack_tape(tape: &[u8], out: &mut [i32]) -> Listed
+    ensures { λ r. ⌜ UnpackSays (now (tape .entry)) (now (out .entry)) (now (out .exit)) r ⌝ }
+{
+    layers::unpack_tape(tape, out)
+}
+
+#[no_mangle]
+pub extern "C" fn layers_draw_flat(tape: &[u8], grid: Grid, picture: &mut [u8]) -> Answer
+    ensures { λ r. ⌜ FullSays false (now (tape .entry)) grid (now (picture .entry)) (now (picture .exit)) r ⌝ }
+{
+    layers::draw_flat(tape, grid, picture)
+}
+
+#[no_mangle]
+pub extern "C" fn layers_draw_solid(tape: &[u8], grid: Grid, picture: &mut [u16]) -> Answer
+    ensures { λ r. ⌜ FullSays true (now (tape .entry)) grid (now (picture .entry)) (now (picture .exit)) r ⌝ }
+{
+    layers::draw_solid(tape, grid, picture)
+}
+
+#[no_mangle]
+pub extern "C" fn layers_tile_flat(
+    tape: &[u8],
+    grid: Grid,
+    picture: &mut [u8],
+    work: &mut [u8],
+) -> Answer
+    ensures { λ r. ⌜ TilesSay false (now (tape .entry)) grid (now (picture .entry)) (now (picture .exit)) (now (work .entry)) (now (work .exit)) r ⌝ }
+{
+    layers::tile_flat(tape, grid, picture, work)
+}
+
+#[no_mangle]
+pub extern "C" fn layers_tile_solid(
+    tape: &[u8],
+    grid: Grid,
+    picture: &mut [u16],
+    work: &mut [u8],
+) -> Answer
+    ensures { λ r. ⌜ TilesSay true (now (tape .entry)) grid (now (picture .entry)) (now (picture .exit)) (now (work .entry)) (now (work .exit)) r ⌝ }
+{
+    layers::tile_solid(tape, grid, picture, work)
+}
+
+#[no_mangle]
+pub extern "C" fn layers_write_bitmap(
+    width: u32,
+    height: u32,
+    picture: &[u8],
+    out: &mut [u8],
+) -> Answer
+    ensures { λ r. ⌜ BitmapSays width height (now (picture .entry)) (now (out .entry)) (now (out .exit)) r ⌝ }
+{
+    layers::write_bitmap(width, height, picture, out)
+}
+
+#[no_mangle]
+pub extern "C" fn layers_write_heights(
+    width: u32,
+    height: u32,
+    picture: &[u16],
+    out: &mut [u8],
+) -> Answer
+    ensures { λ r. ⌜ HeightsSay width height (now (picture .entry)) (now (out .entry)) (now (out .exit)) r ⌝ }
+{
+    layers::write_heights(width, height, picture, out)
+}

@@ -1,0 +1,80 @@
+/*
+ * Lezantsiro: the layer core's calls for C.
+ *
+ * A buffer is a pointer and its length in elements, and stays the caller's: a call keeps no pointer, allocates nothing and
+ * uses less than 64 KiB of stack. A pointer is never null, also where the length is 0; buffers of one call must not overlap.
+ *
+ * Every call takes any input. It returns number, place and count. number 0: done; the whole output or picture is written,
+ * and the whole work buffer is 0. Any other number is a line of the table of refusals: nothing lent has changed, count is 0,
+ * and place is the clause at fault for numbers 5 to 9, otherwise 0.
+ *
+ *   1 tape below 8 bytes                  8 a used constant of -2147483648
+ *   2 head mark, edition, spare bytes     9 a slot read that no earlier clause wrote
+ *   3 slot or clause count out of range  10 a size not 1 to 512
+ *   4 length of the tape or list         11 a step below 1, or a sample outside -2147483647 to 2147483647
+ *   5 clause mark or opcode              12 picture buffer not of the exact length
+ *   6 a used slot field out of range     13 work buffer below 32768 bytes
+ *   7 an unused field not 0              14 output not of the exact length
+ */
+#ifndef LAYERS_H
+#define LAYERS_H
+
+#include <stddef.h>
+#include <stdint.h>
+
+#ifdef __cplusplus
+extern "C" {
+#endif
+
+#define LAYERS_WORK 32768
+
+typedef struct {
+    uint8_t number;
+    uint32_t place;
+    uint64_t count;
+} LayersAnswer;
+
+/* The answer of unpacking, with the tape's slot count (0 where it is refused). */
+typedef struct {
+    LayersAnswer answer;
+    uint8_t slots;
+} LayersListed;
+
+/* Sample i on an axis is first + i * step. A flat drawing reads neither depth nor zstep; its one z is zfirst. */
+typedef struct {
+    uint32_t width;
+    uint32_t height;
+    uint32_t depth;
+    int32_t xfirst;
+    int32_t yfirst;
+    int32_t zfirst;
+    int32_t xstep;
+    int32_t ystep;
+    int32_t zstep;
+} LayersGrid;
+
+/* A list, five numbers to a clause (opcode, out, left, right, constant), to a tape of 8 + 10 bytes a clause, and back. */
+LayersAnswer layers_pack_tape(uint32_t slots, const int32_t *list, size_t list_len, uint8_t *out, size_t out_len);
+LayersListed layers_unpack_tape(const uint8_t *tape, size_t tape_len, int32_t *out, size_t out_len);
+
+/* The full drawings: a flat picture has (width + 7) / 8 bytes a row, a solid one 16-bit height a pixel. */
+LayersAnswer layers_draw_flat(const uint8_t *tape, size_t tape_len, LayersGrid grid, uint8_t *picture, size_t picture_len);
+LayersAnswer layers_draw_solid(const uint8_t *tape, size_t tape_len, LayersGrid grid, uint16_t *picture, size_t picture_len);
+
+/* The same pictures, drawn by tiles. work has at least LAYERS_WORK bytes. */
+LayersAnswer layers_tile_flat(const uint8_t *tape, size_t tape_len, LayersGrid grid, uint8_t *picture, size_t picture_len,
+                              uint8_t *work, size_t work_len);
+LayersAnswer layers_tile_solid(const uint8_t *tape, size_t tape_len, LayersGrid grid, uint16_t *picture, size_t picture_len,
+                               uint8_t *work, size_t work_len);
+
+/* Netpbm files. */
+LayersAnswer layers_write_bitmap(uint32_t width, uint32_t height, const uint8_t *picture, size_t picture_len, uint8_t *out,
+                                 size_t out_len);
+LayersAnswer layers_write_heights(uint32_t width, uint32_t height, const uint16_t *picture, size_t picture_len, uint8_t *out,
+                                  size_t out_len);
+
+#ifdef __cplusplus
+}
+#endif
+
+#endif
