@@ -11,22 +11,21 @@ use mir.Syntax.{w32}
 use mir.Val.{SFits}
 use mir.Facts.{toZ-ofZ}
 use Rattle.rules.specs.Values.{Range, range, Box}
-use Rattle.rules.specs.Drawings.{lesser, region, solid, at, boxOf, filled, hidden, gridFault, raiseRows, rowsHigh, pastZ}
+use Rattle.rules.specs.Drawings.{lesser, solid, at, boxOf, filled, hidden, gridFault, raiseRows, rowsHigh, pastZ}
 use Rattle.rules.proofs.Words.{read, both}
 use Rattle.fixed.specs.Shapes.{rangeIn, boxIn}
-use Rattle.fixed.specs.declared.span.Span.{Span}
 use Rattle.fixed.specs.declared.clause.Bounds.{Bounds}
 use Rattle.code.specs.Runs.{BoxOk}
 use Rattle.picture.specs.Shapes.{gridIn}
 use Rattle.picture.specs.Heights.{RowsFit}
 use Rattle.picture.specs.declared.grid.Grid.{Grid}
-use Rattle.picture.proofs.Grids.{Accepted, accepted}
+use Rattle.picture.proofs.Grids.{accepted}
 use Rattle.picture.proofs.HeightRows.{region-fits}
 use Rattle.drawing.specs.Draws.{Fills, Hidden, Same}
 use Rattle.drawing.proofs.Draws.{hidden-same}
 use Rattle.drawing.proofs.Rows.{fills-same}
 use Rattle.drawing.proofs.Children.{part}
-use Rattle.solid_tiles.specs.Cells.{Ready, InGrid, Ends, CellOk, CellOf, regionIn, SpanIn, SpanOf}
+use Rattle.solid_tiles.specs.Cells.{Ready, Ends, CellOk, regionIn, SpanIn, SpanOf}
 use Rattle.solid_tiles.specs.declared.cell.Cell.{Cell}
 
 -- The sizes of an accepted grid.

@@ -1,13 +1,12 @@
 -- The cases of a look at a region, and what follows for its visit.
 use mathlib.Core.Path.{_≡_, refl, sym, ap, subst, _∙_}
-use mathlib.Core.Bool.{Bool, true, false}
-use mathlib.Core.List.{List, [], _∷_}
+use mathlib.Core.Bool.{true, false}
+use mathlib.Core.List.{List, _∷_}
 use Prim.Native.Nat.{ℕ, _+_, _-_, _*_, _≤_}
 use native.Mathlib.Omega.{arith}
 use lib.ListN.{length, take, drop, length-drop}
 use lib.Seq.{take-all}
 use Rattle.rules.specs.Values.{Box}
-use Rattle.rules.specs.Tapes.{Tape}
 use Rattle.rules.specs.Drawings.{Region, boxOf, fold, visit, children, alongZ, gridFault}
 use Rattle.rules.proofs.Accepted.{Accepted}
 use Rattle.rules.proofs.ShortAccepted.{short-accepted}

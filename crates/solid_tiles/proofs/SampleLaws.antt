@@ -22,7 +22,7 @@ use Rattle.code.proofs.WordTapes.{length-clauses}
 use Rattle.picture.specs.Shapes.{gridIn}
 use Rattle.picture.specs.declared.grid.Grid.{Grid}
 use Rattle.picture.proofs.Grids.{accepted}
-use Rattle.drawing.specs.Draws.{Fills, Hidden, Same}
+use Rattle.drawing.specs.Draws.{Hidden, Same}
 use Rattle.drawing.specs.Verdicts.{Sound}
 use Rattle.drawing.proofs.Draws.{hidden-same, draws-count, draws-hidden, draws-sample-full, draws-sample-empty}
 use Rattle.drawing.proofs.Rows.{hidden-sample, fill-sample, raises-same}

@@ -1,18 +1,18 @@
 -- The whole drawing: all tiles, from heights of 0.
-use mathlib.Core.Path.{_≡_, refl, sym, ap, _∙_}
+use mathlib.Core.Path.{_≡_, sym, ap, _∙_}
 use mathlib.Core.Bool.{true}
 use mathlib.Core.List.{List}
-use Prim.Native.Nat.{ℕ, _*_, _≤_}
+use Prim.Native.Nat.{ℕ, _*_}
 use native.Mathlib.Omega.{arith}
-use lib.ListN.{length, replicate}
-use Rattle.rules.specs.Drawings.{Region, fold, visit, children, sides, whole, alongZ, walked, gridFault}
+use lib.ListN.{replicate}
+use Rattle.rules.specs.Drawings.{Region, fold, visit, children, sides, whole, alongZ, gridFault}
 use Rattle.rules.proofs.Accepted.{Accepted}
 use Rattle.code.specs.Words.{tapeIn}
 use Rattle.picture.specs.Shapes.{gridIn}
 use Rattle.picture.specs.declared.grid.Grid.{Grid}
 use Rattle.drawing.specs.Draws.{Draws, Same}
 use Rattle.drawing.proofs.Draws.{draws-walked}
-use Rattle.solid_tiles.specs.Cells.{InGrid, CellOf, regionIn}
+use Rattle.solid_tiles.specs.Cells.{InGrid, CellOf}
 use Rattle.solid_tiles.specs.Walks.{below64, Folds, Walked}
 use Rattle.solid_tiles.specs.declared.cell.Cell.{Cell}
 use Rattle.solid_tiles.proofs.CellLaws.{small}

@@ -5,7 +5,6 @@ use mathlib.Core.List.{List}
 use Prim.Native.Nat.{ℕ, _+_, _-_, _*_, _≤_, _<_}
 use lib.IntN.{ℤ}
 use lib.ListN.{length}
-use Rattle.rules.specs.Drawings as D
 use Rattle.rules.specs.Drawings.{Region, region, at, lesser, gridFault}
 use Rattle.rules.specs.Values.{IsValue, Range}
 use Rattle.code.specs.Runs.{EndsOk}

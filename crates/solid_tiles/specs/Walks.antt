@@ -1,11 +1,9 @@
 -- What a visit to a region, and to a list of regions, draws and counts: with words, on any number of slots on which they
 -- are an accepted tape.
 use mathlib.Core.Path.{_≡_}
-use mathlib.Core.Bool.{Bool, true, false}
+use mathlib.Core.Bool.{true, false}
 use mathlib.Core.List.{List, [], _∷_}
-use Prim.Native.Nat.{ℕ, _+_, _*_, _≤_}
-use lib.ListN.{length, drop}
-use Rattle.rules.specs.Drawings as D
+use Prim.Native.Nat.{ℕ, _≤_}
 use Rattle.rules.specs.Drawings.{Region, boxOf, fold, visit, walked}
 use Rattle.rules.proofs.Accepted.{Accepted}
 use Rattle.code.specs.Words.{tapeIn}

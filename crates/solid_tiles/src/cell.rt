@@ -79,13 +79,13 @@ pub fn is_hidden(grid: Grid, c: Cell, picture: &[u16]) -> bool
 {
     let rows = (c.yend - c.y) as usize;
     let from = (c.y * grid.width + c.x) as usize;
-    let count = (c.xend - c.x) as usize;
+    let wide = (c.xend - c.x) as usize;
     rows_high(
         picture,
         rows,
         grid.width as usize,
         from,
-        count,
+        wide,
         c.zend as u16,
     )
 }

@@ -6,13 +6,14 @@ use crate::look::look;
 use crate::samples::sample_layers;
 use picture::grid::Grid;
 ghost use mathlib.Core.Path.{_≡_};
-ghost use Prim.Native.Nat.{_<_, _≤_};
+ghost use Prim.Native.Nat.{_*_, _<_, _≤_};
 ghost use lib.ListN.{length};
 ghost use Rattle.rules.specs.Drawings.{region, alongX, alongY, alongZ};
 ghost use Rattle.drawing.specs.Verdicts.{Sound};
 ghost use Rattle.solid_tiles.specs.Cells.{Ready, InGrid, CellOk};
 ghost use Rattle.solid_tiles.specs.Walks.{below4, Visits, Folds};
 
+// At most 65 runs: the region and 64 samples.
 fn visit_four(
     code: &[u64],
     grid: Grid,
@@ -27,7 +28,7 @@ fn visit_four(
     requires { ⌜ Ready grid (now picture) ⌝ }
     requires { ⌜ InGrid grid x y z ⌝ }
     requires { ⌜ (1024 ≤ length (now choices)) × (1024 ≤ length (now third)) ⌝ }
-    ensures { λ r. ⌜ Visits 66560 (now (code .entry)) grid below4 (region x y z 4) (now (picture .entry)) (now (picture .exit)) r ⌝ }
+    ensures { λ r. ⌜ Visits (65 * 1024) (now (code .entry)) grid below4 (region x y z 4) (now (picture .entry)) (now (picture .exit)) r ⌝ }
 {
     let cell = cell_at(grid, x, y, z, 4);
     let seen = look(code, grid, cell, picture, choices, third);
@@ -55,7 +56,7 @@ fn four_row(
     requires { ⌜ CellOk grid parent ⌝ }
     requires { ⌜ (parent .side ≡ 16) × (y < parent .yend) × (z < parent .zend) ⌝ }
     requires { ⌜ (1024 ≤ length (now choices)) × (1024 ≤ length (now third)) ⌝ }
-    ensures { λ r. ⌜ Folds 266240 (now (code .entry)) grid below4 (alongX 4 (parent .x) y z 4 (parent .xend)) (now (picture .entry)) (now (picture .exit)) r ⌝ }
+    ensures { λ r. ⌜ Folds (260 * 1024) (now (code .entry)) grid below4 (alongX 4 (parent .x) y z 4 (parent .xend)) (now (picture .entry)) (now (picture .exit)) r ⌝ }
 {
     let mut count: u64 = 0;
     let mut x = parent.x;
@@ -80,7 +81,7 @@ fn four_rows(
     requires { ⌜ CellOk grid parent ⌝ }
     requires { ⌜ (parent .side ≡ 16) × (z < parent .zend) ⌝ }
     requires { ⌜ (1024 ≤ length (now choices)) × (1024 ≤ length (now third)) ⌝ }
-    ensures { λ r. ⌜ Folds 1064960 (now (code .entry)) grid below4 (alongY 4 4 (parent .x) (parent .y) z 4 (parent .xend) (parent .yend)) (now (picture .entry)) (now (picture .exit)) r ⌝ }
+    ensures { λ r. ⌜ Folds (1040 * 1024) (now (code .entry)) grid below4 (alongY 4 4 (parent .x) (parent .y) z 4 (parent .xend) (parent .yend)) (now (picture .entry)) (now (picture .exit)) r ⌝ }
 {
     let mut count: u64 = 0;
     let mut y = parent.y;
@@ -104,7 +105,7 @@ pub fn four_layers(
     requires { ⌜ CellOk grid parent ⌝ }
     requires { ⌜ parent .side ≡ 16 ⌝ }
     requires { ⌜ (1024 ≤ length (now choices)) × (1024 ≤ length (now third)) ⌝ }
-    ensures { λ r. ⌜ Folds 4259840 (now (code .entry)) grid below4 (alongZ 4 4 (parent .x) (parent .y) (parent .z) 4 (parent .xend) (parent .yend) (parent .zend)) (now (picture .entry)) (now (picture .exit)) r ⌝ }
+    ensures { λ r. ⌜ Folds (4160 * 1024) (now (code .entry)) grid below4 (alongZ 4 4 (parent .x) (parent .y) (parent .z) 4 (parent .xend) (parent .yend) (parent .zend)) (now (picture .entry)) (now (picture .exit)) r ⌝ }
 {
     let mut count: u64 = 0;
     let mut z = parent.z + (parent.zend - parent.z + 3) / 4 * 4;

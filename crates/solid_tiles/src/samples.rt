@@ -6,7 +6,7 @@ use picture::grid::Grid;
 use picture::grid::sample;
 ghost use mathlib.Core.Path.{_≡_};
 ghost use mathlib.Core.List.{[]};
-ghost use Prim.Native.Nat.{_<_};
+ghost use Prim.Native.Nat.{_*_, _<_};
 ghost use Rattle.rules.specs.Drawings.{region, alongX, alongY, alongZ};
 ghost use Rattle.drawing.specs.Verdicts.{Sound};
 ghost use Rattle.solid_tiles.specs.Cells.{Ready, InGrid, CellOk};
@@ -43,7 +43,7 @@ fn sample_row(code: &[u64], grid: Grid, parent: Cell, y: u32, z: u32, picture: &
     requires { ⌜ Ready grid (now picture) ⌝ }
     requires { ⌜ CellOk grid parent ⌝ }
     requires { ⌜ (parent .side ≡ 4) × (y < parent .yend) × (z < parent .zend) ⌝ }
-    ensures { λ r. ⌜ Folds 4096 (now (code .entry)) grid [] (alongX 4 (parent .x) y z 1 (parent .xend)) (now (picture .entry)) (now (picture .exit)) r ⌝ }
+    ensures { λ r. ⌜ Folds (4 * 1024) (now (code .entry)) grid [] (alongX 4 (parent .x) y z 1 (parent .xend)) (now (picture .entry)) (now (picture .exit)) r ⌝ }
 {
     let mut count: u64 = 0;
     let mut x = parent.x;
@@ -59,7 +59,7 @@ fn sample_rows(code: &[u64], grid: Grid, parent: Cell, z: u32, picture: &mut [u1
     requires { ⌜ Ready grid (now picture) ⌝ }
     requires { ⌜ CellOk grid parent ⌝ }
     requires { ⌜ (parent .side ≡ 4) × (z < parent .zend) ⌝ }
-    ensures { λ r. ⌜ Folds 16384 (now (code .entry)) grid [] (alongY 4 4 (parent .x) (parent .y) z 1 (parent .xend) (parent .yend)) (now (picture .entry)) (now (picture .exit)) r ⌝ }
+    ensures { λ r. ⌜ Folds (16 * 1024) (now (code .entry)) grid [] (alongY 4 4 (parent .x) (parent .y) z 1 (parent .xend) (parent .yend)) (now (picture .entry)) (now (picture .exit)) r ⌝ }
 {
     let mut count: u64 = 0;
     let mut y = parent.y;
@@ -75,7 +75,7 @@ pub fn sample_layers(code: &[u64], grid: Grid, parent: Cell, picture: &mut [u16]
     requires { ⌜ Ready grid (now picture) ⌝ }
     requires { ⌜ CellOk grid parent ⌝ }
     requires { ⌜ parent .side ≡ 4 ⌝ }
-    ensures { λ r. ⌜ Folds 65536 (now (code .entry)) grid [] (alongZ 4 4 (parent .x) (parent .y) (parent .z) 1 (parent .xend) (parent .yend) (parent .zend)) (now (picture .entry)) (now (picture .exit)) r ⌝ }
+    ensures { λ r. ⌜ Folds (64 * 1024) (now (code .entry)) grid [] (alongZ 4 4 (parent .x) (parent .y) (parent .z) 1 (parent .xend) (parent .yend) (parent .zend)) (now (picture .entry)) (now (picture .exit)) r ⌝ }
 {
     let mut count: u64 = 0;
     let mut z = parent.zend;

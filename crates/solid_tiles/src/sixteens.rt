@@ -6,13 +6,14 @@ use crate::look::Seen;
 use crate::look::look;
 use picture::grid::Grid;
 ghost use mathlib.Core.Path.{_≡_};
-ghost use Prim.Native.Nat.{_<_, _≤_};
+ghost use Prim.Native.Nat.{_*_, _<_, _≤_};
 ghost use lib.ListN.{length};
 ghost use Rattle.rules.specs.Drawings.{region, alongX, alongY, alongZ};
 ghost use Rattle.drawing.specs.Verdicts.{Sound};
 ghost use Rattle.solid_tiles.specs.Cells.{Ready, InGrid, CellOk};
 ghost use Rattle.solid_tiles.specs.Walks.{below16, Visits, Folds};
 
+// At most 4,161 runs: the region, 64 of side 4 and 4,096 samples.
 fn visit_sixteen(
     code: &[u64],
     grid: Grid,
@@ -28,7 +29,7 @@ fn visit_sixteen(
     requires { ⌜ Ready grid (now picture) ⌝ }
     requires { ⌜ InGrid grid x y z ⌝ }
     requires { ⌜ (1024 ≤ length (now choices)) × (1024 ≤ length (now second)) × (1024 ≤ length (now third)) ⌝ }
-    ensures { λ r. ⌜ Visits 4260864 (now (code .entry)) grid below16 (region x y z 16) (now (picture .entry)) (now (picture .exit)) r ⌝ }
+    ensures { λ r. ⌜ Visits (4161 * 1024) (now (code .entry)) grid below16 (region x y z 16) (now (picture .entry)) (now (picture .exit)) r ⌝ }
 {
     let cell = cell_at(grid, x, y, z, 16);
     let seen = look(code, grid, cell, picture, choices, second);
@@ -57,7 +58,7 @@ fn sixteen_row(
     requires { ⌜ CellOk grid parent ⌝ }
     requires { ⌜ (parent .side ≡ 64) × (y < parent .yend) × (z < parent .zend) ⌝ }
     requires { ⌜ (1024 ≤ length (now choices)) × (1024 ≤ length (now second)) × (1024 ≤ length (now third)) ⌝ }
-    ensures { λ r. ⌜ Folds 17043456 (now (code .entry)) grid below16 (alongX 4 (parent .x) y z 16 (parent .xend)) (now (picture .entry)) (now (picture .exit)) r ⌝ }
+    ensures { λ r. ⌜ Folds (16644 * 1024) (now (code .entry)) grid below16 (alongX 4 (parent .x) y z 16 (parent .xend)) (now (picture .entry)) (now (picture .exit)) r ⌝ }
 {
     let mut count: u64 = 0;
     let mut x = parent.x;
@@ -83,7 +84,7 @@ fn sixteen_rows(
     requires { ⌜ CellOk grid parent ⌝ }
     requires { ⌜ (parent .side ≡ 64) × (z < parent .zend) ⌝ }
     requires { ⌜ (1024 ≤ length (now choices)) × (1024 ≤ length (now second)) × (1024 ≤ length (now third)) ⌝ }
-    ensures { λ r. ⌜ Folds 68173824 (now (code .entry)) grid below16 (alongY 4 4 (parent .x) (parent .y) z 16 (parent .xend) (parent .yend)) (now (picture .entry)) (now (picture .exit)) r ⌝ }
+    ensures { λ r. ⌜ Folds (66576 * 1024) (now (code .entry)) grid below16 (alongY 4 4 (parent .x) (parent .y) z 16 (parent .xend) (parent .yend)) (now (picture .entry)) (now (picture .exit)) r ⌝ }
 {
     let mut count: u64 = 0;
     let mut y = parent.y;
@@ -108,7 +109,7 @@ pub fn sixteen_layers(
     requires { ⌜ CellOk grid parent ⌝ }
     requires { ⌜ parent .side ≡ 64 ⌝ }
     requires { ⌜ (1024 ≤ length (now choices)) × (1024 ≤ length (now second)) × (1024 ≤ length (now third)) ⌝ }
-    ensures { λ r. ⌜ Folds 272695296 (now (code .entry)) grid below16 (alongZ 4 4 (parent .x) (parent .y) (parent .z) 16 (parent .xend) (parent .yend) (parent .zend)) (now (picture .entry)) (now (picture .exit)) r ⌝ }
+    ensures { λ r. ⌜ Folds (266304 * 1024) (now (code .entry)) grid below16 (alongZ 4 4 (parent .x) (parent .y) (parent .z) 16 (parent .xend) (parent .yend) (parent .zend)) (now (picture .entry)) (now (picture .exit)) r ⌝ }
 {
     let mut count: u64 = 0;
     let mut z = parent.z + (parent.zend - parent.z + 15) / 16 * 16;

@@ -7,13 +7,14 @@ use crate::sixteens::sixteen_layers;
 use picture::grid::Grid;
 use picture::heights::clear;
 ghost use mathlib.Core.Path.{_≡_};
-ghost use Prim.Native.Nat.{_<_, _≤_};
+ghost use Prim.Native.Nat.{_*_, _<_, _≤_};
 ghost use lib.ListN.{length};
 ghost use Rattle.rules.specs.Drawings.{region, alongX, alongY, alongZ};
 ghost use Rattle.drawing.specs.Verdicts.{Sound};
 ghost use Rattle.solid_tiles.specs.Cells.{Ready, InGrid, CellOk};
 ghost use Rattle.solid_tiles.specs.Walks.{below64, Visits, Folds, Walked};
 
+// At most 266,305 runs: the tile, 64 of side 16, 4,096 of side 4 and 262,144 samples.
 fn visit_tile(
     code: &[u64],
     grid: Grid,
@@ -30,7 +31,7 @@ fn visit_tile(
     requires { ⌜ Ready grid (now picture) ⌝ }
     requires { ⌜ InGrid grid x y z ⌝ }
     requires { ⌜ (1024 ≤ length (now choices)) × (1024 ≤ length (now first)) × (1024 ≤ length (now second)) × (1024 ≤ length (now third)) ⌝ }
-    ensures { λ r. ⌜ Visits 272696320 (now (code .entry)) grid below64 (region x y z 64) (now (picture .entry)) (now (picture .exit)) r ⌝ }
+    ensures { λ r. ⌜ Visits (266305 * 1024) (now (code .entry)) grid below64 (region x y z 64) (now (picture .entry)) (now (picture .exit)) r ⌝ }
 {
     let cell = cell_at(grid, x, y, z, 64);
     let seen = look(code, grid, cell, picture, choices, first);
@@ -68,7 +69,7 @@ fn tile_row(
     requires { ⌜ CellOk grid parent ⌝ }
     requires { ⌜ (parent .side ≡ 512) × (y < parent .yend) × (z < parent .zend) ⌝ }
     requires { ⌜ (1024 ≤ length (now choices)) × (1024 ≤ length (now first)) × (1024 ≤ length (now second)) × (1024 ≤ length (now third)) ⌝ }
-    ensures { λ r. ⌜ Folds 2181570560 (now (code .entry)) grid below64 (alongX 8 (parent .x) y z 64 (parent .xend)) (now (picture .entry)) (now (picture .exit)) r ⌝ }
+    ensures { λ r. ⌜ Folds (2130440 * 1024) (now (code .entry)) grid below64 (alongX 8 (parent .x) y z 64 (parent .xend)) (now (picture .entry)) (now (picture .exit)) r ⌝ }
 {
     let mut count: u64 = 0;
     let mut x = parent.x;
@@ -95,7 +96,7 @@ fn tile_rows(
     requires { ⌜ CellOk grid parent ⌝ }
     requires { ⌜ (parent .side ≡ 512) × (z < parent .zend) ⌝ }
     requires { ⌜ (1024 ≤ length (now choices)) × (1024 ≤ length (now first)) × (1024 ≤ length (now second)) × (1024 ≤ length (now third)) ⌝ }
-    ensures { λ r. ⌜ Folds 17452564480 (now (code .entry)) grid below64 (alongY 8 8 (parent .x) (parent .y) z 64 (parent .xend) (parent .yend)) (now (picture .entry)) (now (picture .exit)) r ⌝ }
+    ensures { λ r. ⌜ Folds (17043520 * 1024) (now (code .entry)) grid below64 (alongY 8 8 (parent .x) (parent .y) z 64 (parent .xend) (parent .yend)) (now (picture .entry)) (now (picture .exit)) r ⌝ }
 {
     let mut count: u64 = 0;
     let mut y = parent.y;
@@ -132,7 +133,7 @@ pub fn tile_layers(
     requires { ⌜ CellOk grid parent ⌝ }
     requires { ⌜ parent .side ≡ 512 ⌝ }
     requires { ⌜ (1024 ≤ length (now choices)) × (1024 ≤ length (now first)) × (1024 ≤ length (now second)) × (1024 ≤ length (now third)) ⌝ }
-    ensures { λ r. ⌜ Folds 139620515840 (now (code .entry)) grid below64 (alongZ 8 8 (parent .x) (parent .y) (parent .z) 64 (parent .xend) (parent .yend) (parent .zend)) (now (picture .entry)) (now (picture .exit)) r ⌝ }
+    ensures { λ r. ⌜ Folds (136348160 * 1024) (now (code .entry)) grid below64 (alongZ 8 8 (parent .x) (parent .y) (parent .z) 64 (parent .xend) (parent .yend) (parent .zend)) (now (picture .entry)) (now (picture .exit)) r ⌝ }
 {
     let mut count: u64 = 0;
     let mut z = parent.z + (parent.zend - parent.z + 63) / 64 * 64;

@@ -3,36 +3,29 @@ use Rattle.picture.proofs.GridWords.{InWords, in-words}
 use Rattle.solid_tiles.proofs.CellLaws.{span-words, span-read, x-span, y-span, z-span, cell-box}
 use Rattle.solid_tiles.proofs.cell.bounds.Statement.{statement}
 use Rattle.solid_tiles.proofs.cell.bounds.Tie as tie
-use Rattle.solid_tiles.proofs.cell.bounds.Reads as reads
-use Rattle.solid_tiles.proofs.cell.bounds.Lts as lts
-use Rattle.solid_tiles.proofs.cell.span.Reads as span-reads
 
 -- The grid's numbers as words.
 told : (c : tie.After-struct-told) → InWords (c .before .args .grid)
 told c = in-words (c .struct-told .given)
 
--- src/cell.rt:69:13
 span-requires : tie.Need-span-requires
 span-requires c κs =
     let s = c .before .before in
     let f = told (c .before) in
     span-words (f .xfirst) (f .xstep) (x-span _ _ (s .pre .1) (s .pre .0))
 
--- src/cell.rt:70:13
 span-requires-2 : tie.Need-span-requires-2
 span-requires-2 c κs =
     let s = c .before .before .before .before .before in
     let f = told (c .before .before .before .before) in
     span-words (f .yfirst) (f .ystep) (y-span _ _ (s .pre .1) (s .pre .0))
 
--- src/cell.rt:71:13
 span-requires-3 : tie.Need-span-requires-3
 span-requires-3 c κs =
     let s = c .before .before .before .before .before .before .before .before in
     let f = told (c .before .before .before .before .before .before .before) in
     span-words (f .zfirst) (f .zstep) (z-span _ _ (s .pre .1) (s .pre .0))
 
--- src/cell.rt:63:1
 returns : tie.Need-returns
 returns c =
     let s = c .before .before .before .before .before .before .before .before .before in

@@ -5,35 +5,25 @@ use Rattle.solid_tiles.proofs.CellLaws.{small, ends}
 use borrow.Author.Needs.{needs}
 use Rattle.solid_tiles.proofs.cell.cell_at.Statement.{statement}
 use Rattle.solid_tiles.proofs.cell.cell_at.Tie as tie
-use Rattle.solid_tiles.proofs.cell.cell_at.Reads as reads
-use Rattle.solid_tiles.proofs.cell.cell_at.Lts as lts
-use Rattle.solid_tiles.proofs.cell.lesser.Reads as lesser-reads
 
--- src/cell.rt:43:34
 add-lesser : tie.Need-add-lesser
 add-lesser c = let s = small _ (c .pre .0) in omega arith
 
--- src/cell.rt:43:15
 lesser-requires : tie.Need-lesser-requires
 lesser-requires c κs = search needs
 
--- src/cell.rt:45:35
 add-lesser-2 : tie.Need-add-lesser-2
 add-lesser-2 c = let s = small _ (c .before .pre .0) in omega arith
 
--- src/cell.rt:45:15
 lesser-requires-2 : tie.Need-lesser-requires-2
 lesser-requires-2 c κs = search needs
 
--- src/cell.rt:47:34
 add-lesser-3 : tie.Need-add-lesser-3
 add-lesser-3 c = let s = small _ (c .before .before .pre .0) in omega arith
 
--- src/cell.rt:47:15
 lesser-requires-3 : tie.Need-lesser-requires-3
 lesser-requires-3 c κs = search needs
 
--- src/cell.rt:35:1
 returns : tie.Need-returns
 returns c =
     let p = c .before .before .before .pre in

@@ -1,46 +1,34 @@
 -- The rows of a cell.
 use native.Mathlib.Omega.{arith}
-use Rattle.solid_tiles.proofs.CellLaws.{small, cell-index, cell-rows, cell-hidden, cell-fills}
+use Rattle.solid_tiles.proofs.CellLaws.{small, cell-index, cell-rows, cell-fills}
 use borrow.Author.Needs.{needs}
 use Rattle.solid_tiles.proofs.cell.fill.Statement.{statement}
 use Rattle.solid_tiles.proofs.cell.fill.Tie as tie
-use Rattle.solid_tiles.proofs.cell.fill.Reads as reads
-use Rattle.solid_tiles.proofs.cell.fill.Lts as lts
-use Rattle.picture.proofs.heights.raise_rows.Reads as raise-rows-reads
 
--- src/cell.rt:91:17
 sub-rows : tie.Need-sub-rows
 sub-rows c = search needs
 
--- src/cell.rt:91:16
 cast-rows : tie.Need-cast-rows
 cast-rows c = search needs
 
--- src/cell.rt:92:17
 mul-from : tie.Need-mul-from
 mul-from c = let s = c .before .before .before .before in omega (arith, cell-index _ _ (s .pre .1) (s .pre .0 .fault))
 
--- src/cell.rt:92:17
 add-from : tie.Need-add-from
 add-from c = let s = c .before .before .before .before .before in omega (arith, cell-index _ _ (s .pre .1) (s .pre .0 .fault))
 
--- src/cell.rt:92:16
 cast-from : tie.Need-cast-from
 cast-from c = let s = c .before .before .before .before .before in omega (arith, cell-index _ _ (s .pre .1) (s .pre .0 .fault))
 
--- src/cell.rt:93:18
 sub-count : tie.Need-sub-count
 sub-count c = search needs
 
--- src/cell.rt:93:17
 cast-count : tie.Need-cast-count
 cast-count c = search needs
 
--- src/cell.rt:94:31
 cast-raise-rows : tie.Need-cast-raise-rows
 cast-raise-rows c = search needs
 
--- src/cell.rt:94:65
 cast-raise-rows-2 : tie.Need-cast-raise-rows-2
 cast-raise-rows-2 c =
     let s = c .before .before .before .before .before .before .before .before .before in
@@ -48,17 +36,14 @@ cast-raise-rows-2 c =
     let z = s .pre .1 .zs in
     omega arith
 
--- src/cell.rt:94:5
 raise-rows-requires : tie.Need-raise-rows-requires
 raise-rows-requires c κs =
     let s = c .before .before .before .before .before .before .before .before .before in
     cell-rows _ _ (s .pre .1) _ (s .pre .0)
 
--- src/cell.rt:86:1
 same-length : tie.Need-same-length
 same-length c = search needs
 
--- src/cell.rt:86:1
 returns : tie.Need-returns
 returns c =
     let s = c .before .before .before .before .before .before .before .before .before .before .before .before in

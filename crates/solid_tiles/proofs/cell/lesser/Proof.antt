@@ -4,14 +4,10 @@ use native.Mathlib.Omega.{arith}
 use Rattle.drawing.proofs.Children.{lesser-first, lesser-second}
 use Rattle.solid_tiles.proofs.cell.lesser.Statement.{statement}
 use Rattle.solid_tiles.proofs.cell.lesser.Tie as tie
-use Rattle.solid_tiles.proofs.cell.lesser.Reads as reads
-use Rattle.solid_tiles.proofs.cell.lesser.Lts as lts
 
--- src/cell.rt:29:1
 returns : tie.Need-returns
 returns c = sym (lesser-first _ _ (omega arith))
 
--- src/cell.rt:29:1
 returns-2 : tie.Need-returns-2
 returns-2 c = sym (lesser-second _ _ (omega arith))
 

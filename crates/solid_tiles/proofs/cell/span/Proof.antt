@@ -5,23 +5,16 @@ use Rattle.solid_tiles.proofs.CellLaws.{span-words, span-read}
 use borrow.Author.Needs.{needs}
 use Rattle.solid_tiles.proofs.cell.span.Statement.{statement}
 use Rattle.solid_tiles.proofs.cell.span.Tie as tie
-use Rattle.solid_tiles.proofs.cell.span.Reads as reads
-use Rattle.solid_tiles.proofs.cell.span.Lts as lts
-use Rattle.picture.proofs.grid.sample.Reads as sample-reads
 
--- src/cell.rt:58:14
 sample-requires : tie.Need-sample-requires
 sample-requires c κs = search needs
 
--- src/cell.rt:59:35
 sub-sample : tie.Need-sub-sample
 sub-sample c = search needs
 
--- src/cell.rt:59:15
 sample-requires-2 : tie.Need-sample-requires-2
 sample-requires-2 c κs = search needs
 
--- src/cell.rt:53:1
 returns : tie.Need-returns
 returns c =
     let p = c .before .before .pre in

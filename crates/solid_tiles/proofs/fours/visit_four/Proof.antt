@@ -1,26 +1,19 @@
 -- Done by the look, or cut and its children visited.
-use mathlib.Core.Path.{_≡_, refl, ap, _∙_}
+use mathlib.Core.Path.{refl, ap}
 use mathlib.Core.List.{[]}
 use native.Mathlib.Omega.{arith}
 use Rattle.rules.specs.Drawings.{Region, region}
 use Rattle.solid_tiles.specs.Cells.{CellOf, regionIn}
-use Rattle.solid_tiles.specs.Walks.{Opened, below4}
+use Rattle.solid_tiles.specs.Walks.{Opened}
 use Rattle.solid_tiles.proofs.LookLaws.{done-of, open-of, done-visits, open-sound, open-visits}
 use Rattle.solid_tiles.proofs.Places.{ready-again}
 use borrow.Author.Needs.{needs}
 use Rattle.solid_tiles.proofs.fours.visit_four.Statement.{statement}
 use Rattle.solid_tiles.proofs.fours.visit_four.Tie as tie
-use Rattle.solid_tiles.proofs.fours.visit_four.Reads as reads
-use Rattle.solid_tiles.proofs.fours.visit_four.Lts as lts
-use Rattle.solid_tiles.proofs.cell.cell_at.Reads as cell-at-reads
-use Rattle.solid_tiles.proofs.look.look.Reads as look-reads
-use Rattle.solid_tiles.proofs.samples.sample_layers.Reads as sample-layers-reads
 
--- src/fours.rt:23:9
 cell-at-requires : tie.Need-cell-at-requires
 cell-at-requires c κs = search needs
 
--- src/fours.rt:24:9
 look-requires : tie.Need-look-requires
 look-requires c κs =
     let s = c .before .before .before .before .before .before .before .before in
@@ -42,15 +35,12 @@ opened : (c : tie.After-known-told2)
     (j .look .last .1 .1 .1 .1 .1 .0) (c .before .seen2 .given .0 .0)
 opened c = open-of _ _ _ _ _ _ (c .before .before .before .before .before .before .before .before .before .look .ensures) (c .before .seen2 .given .1)
 
--- src/fours.rt:26:20
 enum-known-seen : tie.Need-enum-known-seen
 enum-known-seen c = search needs
 
--- src/fours.rt:27:20
 enum-known-seen-2 : tie.Need-enum-known-seen-2
 enum-known-seen-2 c = search needs
 
--- src/fours.rt:28:40
 mul-sample-layers : tie.Need-mul-sample-layers
 mul-sample-layers c =
     let o = opened c .cut .start in
@@ -58,19 +48,15 @@ mul-sample-layers c =
     let g = begun j .good in
     omega (arith, j .look .kept .1 .1 .1 .1 .1 .0)
 
--- src/fours.rt:28:40
 sub-sample-layers : tie.Need-sub-sample-layers
 sub-sample-layers c = opened c .cut .start
 
--- src/fours.rt:28:40
 part-sample-layers-start : tie.Need-part-sample-layers-start
 part-sample-layers-start c = opened (c .before) .cut .start
 
--- src/fours.rt:28:40
 part-sample-layers-end : tie.Need-part-sample-layers-end
 part-sample-layers-end c = search needs
 
--- src/fours.rt:28:17
 sample-layers-requires : tie.Need-sample-layers-requires
 sample-layers-requires c κs =
     let t = c .before .before .before in
@@ -82,41 +68,32 @@ sample-layers-requires c κs =
       (ready-again (s .pre .1 .0) (j .look .kept .1 .1 .1 .0), (k .ok, ap (λ (q : Region). q .long) (k .same))),
     )
 
--- src/fours.rt:29:13
 add-result : tie.Need-add-result
 add-result c = search needs
 
--- src/fours.rt:16:1
 same-length : tie.Need-same-length
 same-length c = search needs
 
--- src/fours.rt:16:1
 same-length-2 : tie.Need-same-length-2
 same-length-2 c = search needs
 
--- src/fours.rt:16:1
 same-length-3 : tie.Need-same-length-3
 same-length-3 c = search needs
 
--- src/fours.rt:16:1
 returns : tie.Need-returns
 returns c =
     let j = c .before .before .before .before .before .before .before .before .before in
     done-visits 66560 1 [] (made j .same) (omega arith) (done-of _ _ _ _ _ _ (j .look .ensures) (c .before .seen .given .1))
 
--- src/fours.rt:16:1
 same-length-4 : tie.Need-same-length-4
 same-length-4 c = search needs
 
--- src/fours.rt:16:1
 same-length-5 : tie.Need-same-length-5
 same-length-5 c = search needs
 
--- src/fours.rt:16:1
 same-length-6 : tie.Need-same-length-6
 same-length-6 c = search needs
 
--- src/fours.rt:16:1
 returns-2 : tie.Need-returns-2
 returns-2 c =
     let u = c .before .before in

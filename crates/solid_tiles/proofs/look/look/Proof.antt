@@ -12,30 +12,19 @@ use Rattle.solid_tiles.proofs.LookLaws.{sound-runs, sound-length, full-
 use borrow.Author.Needs.{needs}
 use Rattle.solid_tiles.proofs.look.look.Statement.{statement}
 use Rattle.solid_tiles.proofs.look.look.Tie as tie
-use Rattle.solid_tiles.proofs.look.look.Reads as reads
-use Rattle.solid_tiles.proofs.look.look.Lts as lts
-use Rattle.drawing.proofs.verdict.judge.Reads as judge-reads
-use Rattle.solid_tiles.proofs.cell.bounds.Reads as bounds-reads
-use Rattle.solid_tiles.proofs.cell.fill.Reads as fill-reads
-use Rattle.solid_tiles.proofs.cell.is_hidden.Reads as is-hidden-reads
 
--- src/look.rt:28:8
 is-hidden-requires : tie.Need-is-hidden-requires
 is-hidden-requires c κs = search needs
 
--- src/look.rt:29:9
 same-length : tie.Need-same-length
 same-length c = search needs
 
--- src/look.rt:29:9
 returns : tie.Need-returns
 returns c = done-hidden (rw (c .if1 .taken) at (c .before .is-hidden .ensures))
 
--- src/look.rt:31:31
 bounds-requires : tie.Need-bounds-requires
 bounds-requires c κs = search needs
 
--- src/look.rt:31:9
 judge-requires : tie.Need-judge-requires
 judge-requires c κs =
     let s = c .before .before .before .before .before .before .before .before .before .before in
@@ -58,74 +47,58 @@ boxed : (c : tie.After-judge)
     → boxIn (c .before .before .before .bounds .result) ≡ boxOf (gridIn (start c .args .grid) true) (regionIn (start c .args .c))
 boxed c = c .before .before .before .bounds .ensures .0
 
--- src/look.rt:34:27
 enum-told : tie.Need-enum-told
 enum-told c = search needs
 
--- src/look.rt:34:13
 fill-requires : tie.Need-fill-requires
 fill-requires c κs =
     let s = c .before .before .before .before .before .before .before .before .before .before .before .before .before .before .before .before .before .before in
     (s .pre .1 .0, s .pre .1 .1 .0)
 
--- src/look.rt:37:38
 enum-told-2 : tie.Need-enum-told-2
 enum-told-2 c = search needs
 
--- src/look.rt:38:22
 enum-known-verdict : tie.Need-enum-known-verdict
 enum-known-verdict c = search needs
 
--- src/look.rt:21:1
 same-length-2 : tie.Need-same-length-2
 same-length-2 c = search needs
 
--- src/look.rt:21:1
 same-length-3 : tie.Need-same-length-3
 same-length-3 c = search needs
 
--- src/look.rt:21:1
 same-length-4 : tie.Need-same-length-4
 same-length-4 c = search needs
 
--- src/look.rt:21:1
 returns-2 : tie.Need-returns-2
 returns-2 c =
     let m = c .before .before .before .before in
     let j = m .before .before .before .before .before .before in
     done-full (sound j) (seen j) (boxed j) (full-of _ _ _ (j .judge .ensures) (m .enum-told .given .1)) (c .before .before .fill .ensures)
 
--- src/look.rt:21:1
 same-length-5 : tie.Need-same-length-5
 same-length-5 c = search needs
 
--- src/look.rt:21:1
 same-length-6 : tie.Need-same-length-6
 same-length-6 c = search needs
 
--- src/look.rt:21:1
 same-length-7 : tie.Need-same-length-7
 same-length-7 c = search needs
 
--- src/look.rt:21:1
 returns-3 : tie.Need-returns-3
 returns-3 c =
     let j = c .before .before .before .before .before .before in
     done-empty (sound j) (seen j) (boxed j) (empty-of _ _ _ (j .judge .ensures) (c .enum-told2 .given .1))
 
--- src/look.rt:21:1
 same-length-8 : tie.Need-same-length-8
 same-length-8 c = search needs
 
--- src/look.rt:21:1
 same-length-9 : tie.Need-same-length-9
 same-length-9 c = search needs
 
--- src/look.rt:21:1
 same-length-10 : tie.Need-same-length-10
 same-length-10 c = search needs
 
--- src/look.rt:21:1
 returns-4 : tie.Need-returns-4
 returns-4 c =
     let j = c .before .before .before .before .before .before .before in

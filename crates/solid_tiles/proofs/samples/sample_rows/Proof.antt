@@ -1,82 +1,69 @@
--- The rows of one layer.
-use mathlib.Core.Path.{refl, _∙_}
+-- The rows of one layer of regions of side 1.
 use mathlib.Core.List.{[]}
 use Prim.Native.Nat.{_-_}
 use native.Mathlib.Omega.{arith}
-use Rattle.drawing.proofs.Children.{rows-start, rows-step, rows-end}
-use Rattle.solid_tiles.proofs.Places.{RowsPlace, left-from, left-list, left-done, ready-again}
+use Rattle.rules.specs.Drawings.{alongY}
+use Rattle.drawing.proofs.Children.{rowsLeft, rows-start, rows-step, rows-end}
+use Rattle.solid_tiles.proofs.CellLaws.{small}
+use Rattle.solid_tiles.proofs.Places.{Upward, up-starts, up-sum, up-list, up-done, ready-again}
 use Rattle.solid_tiles.proofs.samples.sample_rows.Statement.{statement}
 use Rattle.solid_tiles.proofs.samples.sample_rows.Tie as tie
-use Rattle.solid_tiles.proofs.samples.sample_rows.Reads as reads
-use Rattle.solid_tiles.proofs.samples.sample_rows.Lts as lts
-use Rattle.solid_tiles.proofs.samples.sample_row.Reads as sample-row-reads
 
 abbrev Inv-loop : tie.InvT-loop
 Inv-loop code grid parent z picture₀ count₀ y₀ picture count y =
-    RowsPlace 1 4 4096 code grid [] (parent .x) (parent .y) z (parent .xend) (parent .yend) picture₀ picture count y
+    Upward 1 4 4096 code grid [] (alongY 4 4 (parent .x) (parent .y) z 1 (parent .xend) (parent .yend))
+    (rowsLeft y 4 (parent .x) z 1 (parent .xend) (parent .yend)) (parent .y) (parent .yend) picture₀ picture count y
 
 abbrev μ-loop : tie.MeasureT-loop
 μ-loop code grid parent z picture₀ count₀ y₀ picture count y = parent .yend - y
 
--- src/samples.rt:66:5
 loop-holds : tie.Need-loop-holds Inv-loop μ-loop
 loop-holds c =
-    record {
-      left = left-from _ (rows-start _ _ _ 1 _ _ (omega arith) 4 _ (omega arith));
-      from = omega arith;
-      most = omega arith;
-      even = omega arith;
-      to = omega arith;
-      size = refl;
-    }
+    let p = c .before .before .pre .1 .1 in
+    up-starts _ (rows-start _ _ _ 1 _ _ (omega arith) 4 _ (omega arith)) (omega arith)
 
--- src/samples.rt:67:18
 sample-row-requires : tie.Need-sample-row-requires Inv-loop μ-loop
 sample-row-requires c κs =
     let s = c .before .before .before .before .before .before in
-    let p = s .pre .1 .1 in (
-      s .pre .0,
-      (
-        ready-again (s .pre .1 .0) (c .before .before .before .loop .inv .size),
-        (p .0, (p .1 .0, c .before .if1 .taken, p .1 .1)),
-      ),
-    )
+    let g = c .before .before .before .loop .inv in
+    let p = s .pre .1 .1 in
+    (s .pre .0, (ready-again (s .pre .1 .0) (g .size), (p .0, (p .1 .0, c .before .if1 .taken, p .1 .1))))
 
--- src/samples.rt:67:9
 add-count : tie.Need-add-count Inv-loop μ-loop
-add-count c = omega arith
+add-count c =
+    let v = c .before .before in
+    let t = v .before .before in
+    let i = t .before .before .loop .inv in
+    omega (arith, up-sum i (t .if1 .taken) (v .sample-row .ensures .bound))
 
--- src/samples.rt:68:9
 add-y : tie.Need-add-y Inv-loop μ-loop
-add-y c = omega arith
+add-y c =
+    let v = c .before .before in
+    let t = v .before .before in
+    let i = t .before .before .loop .inv in
+    let p = t .before .before .before .before .before .pre .1 in
+    let d = small _ (p .0 .fault) in
+    omega arith
 
--- src/samples.rt:66:5
 loop-less : tie.Need-loop-less Inv-loop μ-loop
-loop-less c = omega arith
+loop-less c =
+    let v = c .before .before in
+    let t = v .before .before in
+    let i = t .before .before .loop .inv in
+    omega arith
 
--- src/samples.rt:66:5
 loop-again : tie.Need-loop-again Inv-loop μ-loop
 loop-again c =
     let v = c .before .before in
     let t = v .before .before in
-    let g = t .before .before .loop .inv in
-    let i = g in
-    record {
-      left = left-list (rows-step _ _ _ 1 _ _ (omega arith) _ (t .if1 .taken)) (i .left) (v .sample-row .ensures);
-      from = omega arith;
-      most = omega (arith, v .sample-row .ensures .bound);
-      even = omega arith;
-      to = omega arith;
-      size = v .sample-row .kept .1 .1 .1 .1 .1 .0 ∙ i .size;
-    }
+    let i = t .before .before .loop .inv in
+    up-list i (t .if1 .taken) (rows-step _ _ _ 1 _ _ (omega arith) _ (t .if1 .taken)) (v .sample-row .ensures) (v .sample-row .kept .1 .1 .1 .1 .1 .0)
 
--- src/samples.rt:57:1
 same-length : tie.Need-same-length Inv-loop μ-loop
 same-length c = c .before .before .loop .inv .size
 
--- src/samples.rt:57:1
 returns : tie.Need-returns Inv-loop μ-loop
-returns c = left-done (rows-end _ _ _ 1 _ _ (omega arith) _ (omega arith)) (omega arith) (c .before .before .loop .inv .left)
+returns c = let i = c .before .before .loop .inv in up-done i (rows-end _ _ _ 1 _ _ (omega arith) _ (omega arith))
 
 pub sample-rows-spec : {M : Type 1} → statement M
 sample-rows-spec =

@@ -15,10 +15,6 @@ use Rattle.solid_tiles.proofs.SampleLaws.{at-words, pixel-most, pixel-i
 use borrow.Author.Needs.{needs}
 use Rattle.solid_tiles.proofs.samples.visit_sample.Statement.{statement}
 use Rattle.solid_tiles.proofs.samples.visit_sample.Tie as tie
-use Rattle.solid_tiles.proofs.samples.visit_sample.Reads as reads
-use Rattle.solid_tiles.proofs.samples.visit_sample.Lts as lts
-use Rattle.code.proofs.run.run_values.Reads as run-values-reads
-use Rattle.picture.proofs.grid.sample.Reads as sample-reads
 
 -- The grid's numbers as words.
 told : (c : tie.After-struct-told) → InWords (c .before .before .before .before .before .before .args .grid)
@@ -49,23 +45,18 @@ made c =
     (back w32 _ (v .ok) (v .ensures ∙ at-words _ (f .yfirst) (f .ystep)))
     (back w32 _ (w .ok) (w .ensures ∙ at-words _ (f .zfirst) (f .zstep)))
 
--- src/samples.rt:21:15
 mul-at : tie.Need-mul-at
 mul-at c = let s = c .before .before .before in omega (arith, pixel-most _ _ _ _ (s .pre .1 .1) (s .pre .1 .0 .fault))
 
--- src/samples.rt:21:15
 add-at : tie.Need-add-at
 add-at c = let s = c .before .before .before in omega (arith, pixel-most _ _ _ _ (s .pre .1 .1) (s .pre .1 .0 .fault))
 
--- src/samples.rt:21:14
 cast-at : tie.Need-cast-at
 cast-at c = let s = c .before .before .before in omega (arith, pixel-most _ _ _ _ (s .pre .1 .1) (s .pre .1 .0 .fault))
 
--- src/samples.rt:22:19
 add-height : tie.Need-add-height
 add-height c = search needs
 
--- src/samples.rt:22:18
 cast-height : tie.Need-cast-height
 cast-height c =
     let s = c .before .before .before in
@@ -73,59 +64,48 @@ cast-height c =
     let h = s .pre .1 .1 .z-in in
     omega arith
 
--- src/samples.rt:23:18
 mul-if1 : tie.Need-mul-if1
 mul-if1 c = let s = c .before .before .before in omega (arith, pixel-most _ _ _ _ (s .pre .1 .1) (s .pre .1 .0 .fault))
 
--- src/samples.rt:23:18
 slice-read-if1 : tie.Need-slice-read-if1
 slice-read-if1 c = let s = c .before .before .before .before in pixel-in _ _ _ _ (s .pre .1 .1) (s .pre .1 .0 .fault) (s .pre .1 .0)
 
--- src/samples.rt:24:9
 returns : tie.Need-returns
 returns c =
     let s = c .before .before .before .before .before in
     sample-hidden _ _ _ _ (s .pre .1 .1) (s .pre .1 .0) (s .pre .0) (omega arith)
 
--- src/samples.rt:27:12
 sample-requires : tie.Need-sample-requires
 sample-requires c κs =
     let s = c .before .before .before .before .before .before .before in
     let f = told (c .before) in
     rw (at-words _ (f .xfirst) (f .xstep)) (x-value _ _ _ _ (s .pre .1 .1) (s .pre .1 .0 .fault))
 
--- src/samples.rt:28:12
 sample-requires-2 : tie.Need-sample-requires-2
 sample-requires-2 c κs =
     let s = c .before .before .before .before .before .before .before .before .before .before in
     let f = told (c .before .before .before .before) in
     rw (at-words _ (f .yfirst) (f .ystep)) (y-value _ _ _ _ (s .pre .1 .1) (s .pre .1 .0 .fault))
 
--- src/samples.rt:29:12
 sample-requires-3 : tie.Need-sample-requires-3
 sample-requires-3 c κs =
     let s = c .before .before .before .before .before .before .before .before .before .before .before .before .before in
     let f = told (c .before .before .before .before .before .before .before) in
     rw (at-words _ (f .zfirst) (f .zstep)) (z-value _ _ _ _ (s .pre .1 .1) (s .pre .1 .0 .fault))
 
--- src/samples.rt:32:9
 run-values-requires : tie.Need-run-values-requires
 run-values-requires c κs =
     (sound-runs (start c .pre .0), sample-ok _ _ _ _ (start c .pre .1 .1) (start c .pre .1 .0 .fault) _ (made c))
 
--- src/samples.rt:34:9
 mul-picture : tie.Need-mul-picture
 mul-picture c = let s = c .before .before .before .before .before .before .before .before .before .before .before .before .before .before .before .before in omega (arith, pixel-most _ _ _ _ (s .pre .1 .1) (s .pre .1 .0 .fault))
 
--- src/samples.rt:34:9
 slice-write-picture : tie.Need-slice-write-picture
 slice-write-picture c = let s = c .before .before .before .before .before .before .before .before .before .before .before .before .before .before .before .before in pixel-in _ _ _ _ (s .pre .1 .1) (s .pre .1 .0 .fault) (s .pre .1 .0)
 
--- src/samples.rt:35:9
 same-length : tie.Need-same-length
 same-length c = search needs
 
--- src/samples.rt:35:9
 returns-2 : tie.Need-returns-2
 returns-2 c =
     let v = c .before in
@@ -133,7 +113,6 @@ returns-2 c =
     sample-fills _ _ _ _ (s .pre .1 .1) (s .pre .1 .0) (s .pre .0) (omega (arith, v .before .before .before .before .before .before .before .before .before .before .if1 .left)) _ (made (v .before)) _ (v .run-values .ensures)
     (sign (v .run-values .result) (v .run-values .result) _ (record { sfits = v .run-values .ok }) (c .if2 .taken) refl) _ refl
 
--- src/samples.rt:15:1
 returns-3 : tie.Need-returns-3
 returns-3 c =
     let v = c .before in

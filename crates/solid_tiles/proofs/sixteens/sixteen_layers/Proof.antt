@@ -1,18 +1,20 @@
--- The layers, from the greatest z down.
+-- The layers of regions of side 16, from the greatest z down.
 use mathlib.Core.Path.{_≡_, refl, _∙_}
 use Prim.Native.Nat.{_-_}
 use native.Mathlib.Omega.{arith}
 use lib.ListN.{length}
+use Rattle.rules.specs.Drawings.{alongZ}
 use Rattle.drawing.proofs.Children.{layers-start, layers-step, layers-end}
 use Rattle.solid_tiles.specs.Walks.{below16}
 use Rattle.solid_tiles.proofs.CellLaws.{small}
-use Rattle.solid_tiles.proofs.Places.{LayersPlace, left-from, left-list, left-done, ready-again}
+use Rattle.solid_tiles.proofs.Places.{Downward, down-starts, down-within, down-in, down-sum, down-list, down-done, ready-again}
 use Rattle.solid_tiles.proofs.sixteens.sixteen_layers.Statement.{statement}
 use Rattle.solid_tiles.proofs.sixteens.sixteen_layers.Tie as tie
 
 abbrev Inv-loop : tie.InvT-loop
 Inv-loop code grid parent picture₀ choices₀ second₀ third₀ count₀ z₀ picture choices second third count z =
-    LayersPlace 16 4 4260864 code grid below16 (parent .x) (parent .y) (parent .z) (parent .xend) (parent .yend) (parent .zend) picture₀ picture count z
+    Downward 16 4 68173824 code grid below16 (alongZ 4 4 (parent .x) (parent .y) (parent .z) 16 (parent .xend) (parent .yend) (parent .zend))
+    (alongZ 4 4 (parent .x) (parent .y) (parent .z) 16 (parent .xend) (parent .yend) z) (parent .z) (parent .zend) picture₀ picture count z
     × (length choices ≡ length choices₀)
     × (length second ≡ length second₀)
     × (length third ≡ length third₀)
@@ -21,82 +23,60 @@ abbrev μ-loop : tie.MeasureT-loop
 μ-loop code grid parent picture₀ choices₀ second₀ third₀ count₀ z₀ picture choices second third count z = z - parent .z
 
 sub-z : tie.Need-sub-z Inv-loop μ-loop
-sub-z c = let s = c .before .before .before .before .before .before in let p = s .pre .1 in let d = small _ (p .0 .fault) in omega arith
+sub-z c = let d = small _ (c .before .before .before .before .before .before .pre .1 .0 .fault) in omega arith
 
 add-z : tie.Need-add-z Inv-loop μ-loop
-add-z c = let s = c .before .before .before .before .before .before in let p = s .pre .1 in let d = small _ (p .0 .fault) in omega arith
+add-z c = let d = small _ (c .before .before .before .before .before .before .pre .1 .0 .fault) in omega arith
 
 mul-z : tie.Need-mul-z Inv-loop μ-loop
-mul-z c = let s = c .before .before .before .before .before .before in let p = s .pre .1 in let d = small _ (p .0 .fault) in omega arith
+mul-z c = let d = small _ (c .before .before .before .before .before .before .pre .1 .0 .fault) in omega arith
 
 add-z-2 : tie.Need-add-z-2 Inv-loop μ-loop
-add-z-2 c = let s = c .before .before .before .before .before .before .before in let p = s .pre .1 in let d = small _ (p .0 .fault) in omega arith
+add-z-2 c = let d = small _ (c .before .before .before .before .before .before .before .pre .1 .0 .fault) in omega arith
 
 loop-holds : tie.Need-loop-holds Inv-loop μ-loop
 loop-holds c =
-    let s = c .before .before .before .before .before .before .before in
-    let p = s .pre .1 .1 in (
-      record {
-        left = left-from _ (layers-start 4 4 _ _ _ 16 _ _ (omega arith) _ _ (omega arith) (omega arith) (omega arith) (omega arith));
-        from = omega arith;
-        most = omega arith;
-        even = omega arith;
-        to = omega arith;
-        within = omega arith;
-        size = refl;
-      },
+    let p = c .before .before .before .before .before .before .before .pre .1 .1 in (
+      down-starts _ _ (layers-start 4 4 _ _ _ 16 _ _ (omega arith) _ _ (omega arith) (omega arith) (omega arith) (omega arith))
+          (omega arith) (omega arith) (omega arith) (omega arith) (omega arith),
       refl,
       refl,
       refl,
     )
 
 sub-z-2 : tie.Need-sub-z-2 Inv-loop μ-loop
-sub-z-2 c = omega arith
+sub-z-2 c = down-in (c .before .before .loop .inv .0) (c .if1 .taken) .0
 
 sixteen-rows-requires : tie.Need-sixteen-rows-requires Inv-loop μ-loop
 sixteen-rows-requires c κs =
     let s = c .before .before .before .before .before .before .before .before .before .before .before .before .before .before in
     let g = c .before .before .before .before .before .before .loop .inv in
     let p = s .pre .1 .1 in
-    (s .pre .0, (ready-again (s .pre .1 .0) (g .0 .size), (p .0, ((p .1 .0, omega arith), (omega arith, omega arith, omega arith)))))
+    (s .pre .0, (ready-again (s .pre .1 .0) (g .0 .size), (p .0, ((p .1 .0, down-in (g .0) (c .before .before .before .before .if1 .taken) .1), (omega arith, omega arith, omega arith)))))
 
 add-count : tie.Need-add-count Inv-loop μ-loop
 add-count c =
     let v = c .before .before .before .before .before .before .before .before in
     let t = v .before .before .before .before .before in
-    let g = t .before .before .loop .inv in
-    let i = g .0 in
-    let p = t .before .before .before .before .before .before .before .before .before .before .pre .1 in
-    omega (arith, v .sixteen-rows .ensures .bound)
+    let i = t .before .before .loop .inv .0 in
+    omega (arith, down-sum i (t .if1 .taken) (v .sixteen-rows .ensures .bound))
 
 loop-less : tie.Need-loop-less Inv-loop μ-loop
 loop-less c =
     let v = c .before .before .before .before .before .before .before .before in
     let t = v .before .before .before .before .before in
-    let g = t .before .before .loop .inv in
-    let i = g .0 in
-    let p = t .before .before .before .before .before .before .before .before .before .before .pre .1 in
-    omega arith
+    let i = t .before .before .loop .inv .0 in
+    omega (arith, down-in i (t .if1 .taken) .0)
 
 loop-again : tie.Need-loop-again Inv-loop μ-loop
 loop-again c =
     let v = c .before .before .before .before .before .before .before .before in
     let t = v .before .before .before .before .before in
-    let g = t .before .before .loop .inv in
-    let i = g .0 in
-    let p = t .before .before .before .before .before .before .before .before .before .before .pre .1 in (
-      record {
-        left = left-list (layers-step 4 4 _ _ _ 16 _ _ (omega arith) _ (t .if1 .taken) (i .within) (i .even)) (i .left) (v .sixteen-rows .ensures);
-        from = omega arith;
-        most = omega (arith, v .sixteen-rows .ensures .bound);
-        even = omega arith;
-        to = omega arith;
-        within = omega arith;
-        size = v .sixteen-rows .kept .1 .1 .1 .1 .0 ∙ i .size;
-      },
-      v .sixteen-rows .kept .1 .1 .1 .1 .1 .0 ∙ g .1,
-      v .sixteen-rows .kept .1 .1 .1 .1 .1 .1 .0 ∙ g .2,
-      v .sixteen-rows .kept .1 .1 .1 .1 .1 .1 .1 .0 ∙ g .3,
+    let i = t .before .before .loop .inv .0 in (
+      down-list i (t .if1 .taken) (layers-step 4 4 _ _ _ 16 _ _ (omega arith) _ (t .if1 .taken) (down-within i) (i .even)) (v .sixteen-rows .ensures) (v .sixteen-rows .kept .1 .1 .1 .1 .0),
+      v .sixteen-rows .kept .1 .1 .1 .1 .1 .0 ∙ t .before .before .loop .inv .1,
+      v .sixteen-rows .kept .1 .1 .1 .1 .1 .1 .0 ∙ t .before .before .loop .inv .2,
+      v .sixteen-rows .kept .1 .1 .1 .1 .1 .1 .1 .0 ∙ t .before .before .loop .inv .3,
     )
 
 same-length : tie.Need-same-length Inv-loop μ-loop
@@ -112,10 +92,7 @@ same-length-4 : tie.Need-same-length-4 Inv-loop μ-loop
 same-length-4 c = c .before .before .loop .inv .3
 
 returns : tie.Need-returns Inv-loop μ-loop
-returns c =
-    let i = c .before .before .loop .inv .0 in
-    let p = c .before .before .before .before .before .before .before .before .before .before .pre .1 in
-    left-done (layers-end 4 4 _ _ _ 16 _ _ (omega arith) _ (omega arith)) (omega arith) (i .left)
+returns c = let i = c .before .before .loop .inv .0 in down-done i (layers-end 4 4 _ _ _ 16 _ _ (omega arith) _ (omega arith))
 
 pub sixteen-layers-spec : {M : Type 1} → statement M
 sixteen-layers-spec =

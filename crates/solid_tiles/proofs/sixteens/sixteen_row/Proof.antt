@@ -1,18 +1,20 @@
--- One row of regions.
+-- One row of regions of side 16.
 use mathlib.Core.Path.{_≡_, refl, _∙_}
 use Prim.Native.Nat.{_-_}
 use native.Mathlib.Omega.{arith}
 use lib.ListN.{length}
-use Rattle.drawing.proofs.Children.{row-start, row-step, row-end}
+use Rattle.rules.specs.Drawings.{alongX}
+use Rattle.drawing.proofs.Children.{rowLeft, row-start, row-step, row-end}
 use Rattle.solid_tiles.specs.Walks.{below16}
 use Rattle.solid_tiles.proofs.CellLaws.{small}
-use Rattle.solid_tiles.proofs.Places.{RowPlace, left-from, left-one, left-done, ready-again, child-in}
+use Rattle.solid_tiles.proofs.Places.{Upward, up-starts, up-sum, up-one, up-done, ready-again, child-in}
 use Rattle.solid_tiles.proofs.sixteens.sixteen_row.Statement.{statement}
 use Rattle.solid_tiles.proofs.sixteens.sixteen_row.Tie as tie
 
 abbrev Inv-loop : tie.InvT-loop
 Inv-loop code grid parent y z picture₀ choices₀ second₀ third₀ count₀ x₀ picture choices second third count x =
-    RowPlace 16 4 266304 code grid below16 (parent .x) y z (parent .xend) picture₀ picture count x
+    Upward 16 4 4260864 code grid below16 (alongX 4 (parent .x) y z 16 (parent .xend)) (rowLeft x y z 16 (parent .xend))
+    (parent .x) (parent .xend) picture₀ picture count x
     × (length choices ≡ length choices₀)
     × (length second ≡ length second₀)
     × (length third ≡ length third₀)
@@ -22,20 +24,8 @@ abbrev μ-loop : tie.MeasureT-loop
 
 loop-holds : tie.Need-loop-holds Inv-loop μ-loop
 loop-holds c =
-    let s = c .before .before .before .before .before in
-    let p = s .pre .1 .1 in (
-      record {
-        left = left-from _ (row-start _ _ 16 _ (omega arith) 4 _ (omega arith));
-        from = omega arith;
-        most = omega arith;
-        even = omega arith;
-        to = omega arith;
-        size = refl;
-      },
-      refl,
-      refl,
-      refl,
-    )
+    let p = c .before .before .before .before .before .pre .1 .1 in
+    (up-starts _ (row-start _ _ 16 _ (omega arith) 4 _ (omega arith)) (omega arith), refl, refl, refl)
 
 visit-sixteen-requires : tie.Need-visit-sixteen-requires Inv-loop μ-loop
 visit-sixteen-requires c κs =
@@ -48,17 +38,14 @@ add-count : tie.Need-add-count Inv-loop μ-loop
 add-count c =
     let v = c .before .before .before .before .before .before .before .before in
     let t = v .before .before .before .before .before in
-    let g = t .before .before .loop .inv in
-    let i = g .0 in
-    let p = t .before .before .before .before .before .before .before .before .pre .1 in
-    omega (arith, v .visit-sixteen .ensures .bound)
+    let i = t .before .before .loop .inv .0 in
+    omega (arith, up-sum i (t .if1 .taken) (v .visit-sixteen .ensures .bound))
 
 add-x : tie.Need-add-x Inv-loop μ-loop
 add-x c =
     let v = c .before .before .before .before .before .before .before .before in
     let t = v .before .before .before .before .before in
-    let g = t .before .before .loop .inv in
-    let i = g .0 in
+    let i = t .before .before .loop .inv .0 in
     let p = t .before .before .before .before .before .before .before .before .pre .1 in
     let d = small _ (p .0 .fault) in
     omega arith
@@ -67,29 +54,18 @@ loop-less : tie.Need-loop-less Inv-loop μ-loop
 loop-less c =
     let v = c .before .before .before .before .before .before .before .before in
     let t = v .before .before .before .before .before in
-    let g = t .before .before .loop .inv in
-    let i = g .0 in
-    let p = t .before .before .before .before .before .before .before .before .pre .1 in
+    let i = t .before .before .loop .inv .0 in
     omega arith
 
 loop-again : tie.Need-loop-again Inv-loop μ-loop
 loop-again c =
     let v = c .before .before .before .before .before .before .before .before in
     let t = v .before .before .before .before .before in
-    let g = t .before .before .loop .inv in
-    let i = g .0 in
-    let p = t .before .before .before .before .before .before .before .before .pre .1 in (
-      record {
-        left = left-one (row-step _ _ 16 _ (omega arith) _ (t .if1 .taken)) (i .left) (v .visit-sixteen .ensures);
-        from = omega arith;
-        most = omega (arith, v .visit-sixteen .ensures .bound);
-        even = omega arith;
-        to = omega arith;
-        size = v .visit-sixteen .kept .1 .1 .1 .1 .1 .0 ∙ i .size;
-      },
-      v .visit-sixteen .kept .1 .1 .1 .1 .1 .1 .0 ∙ g .1,
-      v .visit-sixteen .kept .1 .1 .1 .1 .1 .1 .1 .0 ∙ g .2,
-      v .visit-sixteen .kept .1 .1 .1 .1 .1 .1 .1 .1 .0 ∙ g .3,
+    let i = t .before .before .loop .inv .0 in (
+      up-one i (t .if1 .taken) (row-step _ _ 16 _ (omega arith) _ (t .if1 .taken)) (v .visit-sixteen .ensures) (v .visit-sixteen .kept .1 .1 .1 .1 .1 .0),
+      v .visit-sixteen .kept .1 .1 .1 .1 .1 .1 .0 ∙ t .before .before .loop .inv .1,
+      v .visit-sixteen .kept .1 .1 .1 .1 .1 .1 .1 .0 ∙ t .before .before .loop .inv .2,
+      v .visit-sixteen .kept .1 .1 .1 .1 .1 .1 .1 .1 .0 ∙ t .before .before .loop .inv .3,
     )
 
 same-length : tie.Need-same-length Inv-loop μ-loop
@@ -105,10 +81,7 @@ same-length-4 : tie.Need-same-length-4 Inv-loop μ-loop
 same-length-4 c = c .before .before .loop .inv .3
 
 returns : tie.Need-returns Inv-loop μ-loop
-returns c =
-    let i = c .before .before .loop .inv .0 in
-    let p = c .before .before .before .before .before .before .before .before .pre .1 in
-    left-done (row-end _ _ 16 _ (omega arith) _ (omega arith)) (omega arith) (i .left)
+returns c = let i = c .before .before .loop .inv .0 in up-done i (row-end _ _ 16 _ (omega arith) _ (omega arith))
 
 pub sixteen-row-spec : {M : Type 1} → statement M
 sixteen-row-spec =

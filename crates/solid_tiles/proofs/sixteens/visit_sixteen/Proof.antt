@@ -1,6 +1,5 @@
 -- Done by the look, or cut and its children visited.
-use mathlib.Core.Path.{_≡_, refl, ap, _∙_}
-use mathlib.Core.List.{[]}
+use mathlib.Core.Path.{refl, ap}
 use native.Mathlib.Omega.{arith}
 use Rattle.rules.specs.Drawings.{Region, region}
 use Rattle.solid_tiles.specs.Cells.{CellOf, regionIn}
@@ -10,17 +9,10 @@ use Rattle.solid_tiles.proofs.Places.{ready-again}
 use borrow.Author.Needs.{needs}
 use Rattle.solid_tiles.proofs.sixteens.visit_sixteen.Statement.{statement}
 use Rattle.solid_tiles.proofs.sixteens.visit_sixteen.Tie as tie
-use Rattle.solid_tiles.proofs.sixteens.visit_sixteen.Reads as reads
-use Rattle.solid_tiles.proofs.sixteens.visit_sixteen.Lts as lts
-use Rattle.solid_tiles.proofs.cell.cell_at.Reads as cell-at-reads
-use Rattle.solid_tiles.proofs.fours.four_layers.Reads as four-layers-reads
-use Rattle.solid_tiles.proofs.look.look.Reads as look-reads
 
--- src/sixteens.rt:23:9
 cell-at-requires : tie.Need-cell-at-requires
 cell-at-requires c κs = search needs
 
--- src/sixteens.rt:24:9
 look-requires : tie.Need-look-requires
 look-requires c κs =
     let s = c .before .before .before .before .before .before .before .before .before in
@@ -42,15 +34,12 @@ opened : (c : tie.After-known-told2)
     (j .look .last .1 .1 .1 .1 .1 .0) (c .before .seen2 .given .0 .0)
 opened c = open-of _ _ _ _ _ _ (c .before .before .before .before .before .before .before .before .before .look .ensures) (c .before .seen2 .given .1)
 
--- src/sixteens.rt:26:20
 enum-known-seen : tie.Need-enum-known-seen
 enum-known-seen c = search needs
 
--- src/sixteens.rt:27:20
 enum-known-seen-2 : tie.Need-enum-known-seen-2
 enum-known-seen-2 c = search needs
 
--- src/sixteens.rt:28:38
 mul-four-layers : tie.Need-mul-four-layers
 mul-four-layers c =
     let o = opened c .cut .start in
@@ -58,19 +47,15 @@ mul-four-layers c =
     let g = begun j .good in
     omega (arith, j .look .kept .1 .1 .1 .1 .1 .0)
 
--- src/sixteens.rt:28:38
 sub-four-layers : tie.Need-sub-four-layers
 sub-four-layers c = opened c .cut .start
 
--- src/sixteens.rt:28:38
 part-four-layers-start : tie.Need-part-four-layers-start
 part-four-layers-start c = opened (c .before) .cut .start
 
--- src/sixteens.rt:28:38
 part-four-layers-end : tie.Need-part-four-layers-end
 part-four-layers-end c = search needs
 
--- src/sixteens.rt:28:17
 four-layers-requires : tie.Need-four-layers-requires
 four-layers-requires c κs =
     let t = c .before .before .before .before .before in
@@ -82,48 +67,38 @@ four-layers-requires c κs =
       (ready-again (s .pre .1 .0) (j .look .kept .1 .1 .1 .0), (k .ok, (ap (λ (q : Region). q .long) (k .same), (omega arith, omega arith)))),
     )
 
--- src/sixteens.rt:29:13
 add-result : tie.Need-add-result
 add-result c =
     let u = c .before .before .before .before .before .before in
     let j = u .before .before .before .before .before .before .before .before .before .before .before .before .before .before .before in
     omega (arith, sound-length (begun j .pre .0), u .four-layers .ensures .bound)
 
--- src/sixteens.rt:16:1
 same-length : tie.Need-same-length
 same-length c = search needs
 
--- src/sixteens.rt:16:1
 same-length-2 : tie.Need-same-length-2
 same-length-2 c = search needs
 
--- src/sixteens.rt:16:1
 same-length-3 : tie.Need-same-length-3
 same-length-3 c = search needs
 
--- src/sixteens.rt:16:1
 returns : tie.Need-returns
 returns c =
     let j = c .before .before .before .before .before .before .before .before .before in
     done-visits 4260864 4 below4 (made j .same) (omega arith) (done-of _ _ _ _ _ _ (j .look .ensures) (c .before .seen .given .1))
 
--- src/sixteens.rt:16:1
 same-length-4 : tie.Need-same-length-4
 same-length-4 c = search needs
 
--- src/sixteens.rt:16:1
 same-length-5 : tie.Need-same-length-5
 same-length-5 c = search needs
 
--- src/sixteens.rt:16:1
 same-length-6 : tie.Need-same-length-6
 same-length-6 c = search needs
 
--- src/sixteens.rt:16:1
 same-length-7 : tie.Need-same-length-7
 same-length-7 c = search needs
 
--- src/sixteens.rt:16:1
 returns-2 : tie.Need-returns-2
 returns-2 c =
     let u = c .before .before .before .before .before .before in

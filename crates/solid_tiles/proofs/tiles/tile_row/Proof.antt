@@ -1,18 +1,20 @@
--- One row of regions.
+-- One row of regions of side 64.
 use mathlib.Core.Path.{_≡_, refl, _∙_}
 use Prim.Native.Nat.{_-_}
 use native.Mathlib.Omega.{arith}
 use lib.ListN.{length}
-use Rattle.drawing.proofs.Children.{row-start, row-step, row-end}
+use Rattle.rules.specs.Drawings.{alongX}
+use Rattle.drawing.proofs.Children.{rowLeft, row-start, row-step, row-end}
 use Rattle.solid_tiles.specs.Walks.{below64}
 use Rattle.solid_tiles.proofs.CellLaws.{small}
-use Rattle.solid_tiles.proofs.Places.{RowPlace, left-from, left-one, left-done, ready-again, child-in}
+use Rattle.solid_tiles.proofs.Places.{Upward, up-starts, up-sum, up-one, up-done, ready-again, child-in}
 use Rattle.solid_tiles.proofs.tiles.tile_row.Statement.{statement}
 use Rattle.solid_tiles.proofs.tiles.tile_row.Tie as tie
 
 abbrev Inv-loop : tie.InvT-loop
 Inv-loop code grid parent y z picture₀ choices₀ first₀ second₀ third₀ count₀ x₀ picture choices first second third count x =
-    RowPlace 64 8 4260880 code grid below64 (parent .x) y z (parent .xend) picture₀ picture count x
+    Upward 64 8 272696320 code grid below64 (alongX 8 (parent .x) y z 64 (parent .xend)) (rowLeft x y z 64 (parent .xend))
+    (parent .x) (parent .xend) picture₀ picture count x
     × (length choices ≡ length choices₀)
     × (length first ≡ length first₀)
     × (length second ≡ length second₀)
@@ -23,21 +25,8 @@ abbrev μ-loop : tie.MeasureT-loop
 
 loop-holds : tie.Need-loop-holds Inv-loop μ-loop
 loop-holds c =
-    let s = c .before .before .before .before .before .before in
-    let p = s .pre .1 .1 in (
-      record {
-        left = left-from _ (row-start _ _ 64 _ (omega arith) 8 _ (omega arith));
-        from = omega arith;
-        most = omega arith;
-        even = omega arith;
-        to = omega arith;
-        size = refl;
-      },
-      refl,
-      refl,
-      refl,
-      refl,
-    )
+    let p = c .before .before .before .before .before .before .pre .1 .1 in
+    (up-starts _ (row-start _ _ 64 _ (omega arith) 8 _ (omega arith)) (omega arith), refl, refl, refl, refl)
 
 visit-tile-requires : tie.Need-visit-tile-requires Inv-loop μ-loop
 visit-tile-requires c κs =
@@ -50,17 +39,14 @@ add-count : tie.Need-add-count Inv-loop μ-loop
 add-count c =
     let v = c .before .before .before .before .before .before .before .before .before .before in
     let t = v .before .before .before .before .before .before in
-    let g = t .before .before .loop .inv in
-    let i = g .0 in
-    let p = t .before .before .before .before .before .before .before .before .before .pre .1 in
-    omega (arith, v .visit-tile .ensures .bound)
+    let i = t .before .before .loop .inv .0 in
+    omega (arith, up-sum i (t .if1 .taken) (v .visit-tile .ensures .bound))
 
 add-x : tie.Need-add-x Inv-loop μ-loop
 add-x c =
     let v = c .before .before .before .before .before .before .before .before .before .before in
     let t = v .before .before .before .before .before .before in
-    let g = t .before .before .loop .inv in
-    let i = g .0 in
+    let i = t .before .before .loop .inv .0 in
     let p = t .before .before .before .before .before .before .before .before .before .pre .1 in
     let d = small _ (p .0 .fault) in
     omega arith
@@ -69,30 +55,19 @@ loop-less : tie.Need-loop-less Inv-loop μ-loop
 loop-less c =
     let v = c .before .before .before .before .before .before .before .before .before .before in
     let t = v .before .before .before .before .before .before in
-    let g = t .before .before .loop .inv in
-    let i = g .0 in
-    let p = t .before .before .before .before .before .before .before .before .before .pre .1 in
+    let i = t .before .before .loop .inv .0 in
     omega arith
 
 loop-again : tie.Need-loop-again Inv-loop μ-loop
 loop-again c =
     let v = c .before .before .before .before .before .before .before .before .before .before in
     let t = v .before .before .before .before .before .before in
-    let g = t .before .before .loop .inv in
-    let i = g .0 in
-    let p = t .before .before .before .before .before .before .before .before .before .pre .1 in (
-      record {
-        left = left-one (row-step _ _ 64 _ (omega arith) _ (t .if1 .taken)) (i .left) (v .visit-tile .ensures);
-        from = omega arith;
-        most = omega (arith, v .visit-tile .ensures .bound);
-        even = omega arith;
-        to = omega arith;
-        size = v .visit-tile .kept .1 .1 .1 .1 .1 .0 ∙ i .size;
-      },
-      v .visit-tile .kept .1 .1 .1 .1 .1 .1 .0 ∙ g .1,
-      v .visit-tile .kept .1 .1 .1 .1 .1 .1 .1 .0 ∙ g .2,
-      v .visit-tile .kept .1 .1 .1 .1 .1 .1 .1 .1 .0 ∙ g .3,
-      v .visit-tile .kept .1 .1 .1 .1 .1 .1 .1 .1 .1 .0 ∙ g .4,
+    let i = t .before .before .loop .inv .0 in (
+      up-one i (t .if1 .taken) (row-step _ _ 64 _ (omega arith) _ (t .if1 .taken)) (v .visit-tile .ensures) (v .visit-tile .kept .1 .1 .1 .1 .1 .0),
+      v .visit-tile .kept .1 .1 .1 .1 .1 .1 .0 ∙ t .before .before .loop .inv .1,
+      v .visit-tile .kept .1 .1 .1 .1 .1 .1 .1 .0 ∙ t .before .before .loop .inv .2,
+      v .visit-tile .kept .1 .1 .1 .1 .1 .1 .1 .1 .0 ∙ t .before .before .loop .inv .3,
+      v .visit-tile .kept .1 .1 .1 .1 .1 .1 .1 .1 .1 .0 ∙ t .before .before .loop .inv .4,
     )
 
 same-length : tie.Need-same-length Inv-loop μ-loop
@@ -111,10 +86,7 @@ same-length-5 : tie.Need-same-length-5 Inv-loop μ-loop
 same-length-5 c = c .before .before .loop .inv .4
 
 returns : tie.Need-returns Inv-loop μ-loop
-returns c =
-    let i = c .before .before .loop .inv .0 in
-    let p = c .before .before .before .before .before .before .before .before .before .pre .1 in
-    left-done (row-end _ _ 64 _ (omega arith) _ (omega arith)) (omega arith) (i .left)
+returns c = let i = c .before .before .loop .inv .0 in up-done i (row-end _ _ 64 _ (omega arith) _ (omega arith))
 
 pub tile-row-spec : {M : Type 1} → statement M
 tile-row-spec =

@@ -1,18 +1,20 @@
--- The rows of one layer.
+-- The rows of one layer of regions of side 64.
 use mathlib.Core.Path.{_≡_, refl, _∙_}
 use Prim.Native.Nat.{_-_}
 use native.Mathlib.Omega.{arith}
 use lib.ListN.{length}
-use Rattle.drawing.proofs.Children.{rows-start, rows-step, rows-end}
+use Rattle.rules.specs.Drawings.{alongY}
+use Rattle.drawing.proofs.Children.{rowsLeft, rows-start, rows-step, rows-end}
 use Rattle.solid_tiles.specs.Walks.{below64}
 use Rattle.solid_tiles.proofs.CellLaws.{small}
-use Rattle.solid_tiles.proofs.Places.{RowsPlace, left-from, left-list, left-done, ready-again}
+use Rattle.solid_tiles.proofs.Places.{Upward, up-starts, up-sum, up-list, up-done, ready-again}
 use Rattle.solid_tiles.proofs.tiles.tile_rows.Statement.{statement}
 use Rattle.solid_tiles.proofs.tiles.tile_rows.Tie as tie
 
 abbrev Inv-loop : tie.InvT-loop
 Inv-loop code grid parent z picture₀ choices₀ first₀ second₀ third₀ count₀ y₀ picture choices first second third count y =
-    RowsPlace 64 8 34087040 code grid below64 (parent .x) (parent .y) z (parent .xend) (parent .yend) picture₀ picture count y
+    Upward 64 8 2181570560 code grid below64 (alongY 8 8 (parent .x) (parent .y) z 64 (parent .xend) (parent .yend))
+    (rowsLeft y 8 (parent .x) z 64 (parent .xend) (parent .yend)) (parent .y) (parent .yend) picture₀ picture count y
     × (length choices ≡ length choices₀)
     × (length first ≡ length first₀)
     × (length second ≡ length second₀)
@@ -23,21 +25,8 @@ abbrev μ-loop : tie.MeasureT-loop
 
 loop-holds : tie.Need-loop-holds Inv-loop μ-loop
 loop-holds c =
-    let s = c .before .before .before .before .before .before in
-    let p = s .pre .1 .1 in (
-      record {
-        left = left-from _ (rows-start _ _ _ 64 _ _ (omega arith) 8 _ (omega arith));
-        from = omega arith;
-        most = omega arith;
-        even = omega arith;
-        to = omega arith;
-        size = refl;
-      },
-      refl,
-      refl,
-      refl,
-      refl,
-    )
+    let p = c .before .before .before .before .before .before .pre .1 .1 in
+    (up-starts _ (rows-start _ _ _ 64 _ _ (omega arith) 8 _ (omega arith)) (omega arith), refl, refl, refl, refl)
 
 tile-row-requires : tie.Need-tile-row-requires Inv-loop μ-loop
 tile-row-requires c κs =
@@ -50,17 +39,14 @@ add-count : tie.Need-add-count Inv-loop μ-loop
 add-count c =
     let v = c .before .before .before .before .before .before .before .before .before .before in
     let t = v .before .before .before .before .before .before in
-    let g = t .before .before .loop .inv in
-    let i = g .0 in
-    let p = t .before .before .before .before .before .before .before .before .before .pre .1 in
-    omega (arith, v .tile-row .ensures .bound)
+    let i = t .before .before .loop .inv .0 in
+    omega (arith, up-sum i (t .if1 .taken) (v .tile-row .ensures .bound))
 
 add-y : tie.Need-add-y Inv-loop μ-loop
 add-y c =
     let v = c .before .before .before .before .before .before .before .before .before .before in
     let t = v .before .before .before .before .before .before in
-    let g = t .before .before .loop .inv in
-    let i = g .0 in
+    let i = t .before .before .loop .inv .0 in
     let p = t .before .before .before .before .before .before .before .before .before .pre .1 in
     let d = small _ (p .0 .fault) in
     omega arith
@@ -69,30 +55,19 @@ loop-less : tie.Need-loop-less Inv-loop μ-loop
 loop-less c =
     let v = c .before .before .before .before .before .before .before .before .before .before in
     let t = v .before .before .before .before .before .before in
-    let g = t .before .before .loop .inv in
-    let i = g .0 in
-    let p = t .before .before .before .before .before .before .before .before .before .pre .1 in
+    let i = t .before .before .loop .inv .0 in
     omega arith
 
 loop-again : tie.Need-loop-again Inv-loop μ-loop
 loop-again c =
     let v = c .before .before .before .before .before .before .before .before .before .before in
     let t = v .before .before .before .before .before .before in
-    let g = t .before .before .loop .inv in
-    let i = g .0 in
-    let p = t .before .before .before .before .before .before .before .before .before .pre .1 in (
-      record {
-        left = left-list (rows-step _ _ _ 64 _ _ (omega arith) _ (t .if1 .taken)) (i .left) (v .tile-row .ensures);
-        from = omega arith;
-        most = omega (arith, v .tile-row .ensures .bound);
-        even = omega arith;
-        to = omega arith;
-        size = v .tile-row .kept .1 .1 .1 .1 .1 .0 ∙ i .size;
-      },
-      v .tile-row .kept .1 .1 .1 .1 .1 .1 .0 ∙ g .1,
-      v .tile-row .kept .1 .1 .1 .1 .1 .1 .1 .0 ∙ g .2,
-      v .tile-row .kept .1 .1 .1 .1 .1 .1 .1 .1 .0 ∙ g .3,
-      v .tile-row .kept .1 .1 .1 .1 .1 .1 .1 .1 .1 .0 ∙ g .4,
+    let i = t .before .before .loop .inv .0 in (
+      up-list i (t .if1 .taken) (rows-step _ _ _ 64 _ _ (omega arith) _ (t .if1 .taken)) (v .tile-row .ensures) (v .tile-row .kept .1 .1 .1 .1 .1 .0),
+      v .tile-row .kept .1 .1 .1 .1 .1 .1 .0 ∙ t .before .before .loop .inv .1,
+      v .tile-row .kept .1 .1 .1 .1 .1 .1 .1 .0 ∙ t .before .before .loop .inv .2,
+      v .tile-row .kept .1 .1 .1 .1 .1 .1 .1 .1 .0 ∙ t .before .before .loop .inv .3,
+      v .tile-row .kept .1 .1 .1 .1 .1 .1 .1 .1 .1 .0 ∙ t .before .before .loop .inv .4,
     )
 
 same-length : tie.Need-same-length Inv-loop μ-loop
@@ -111,10 +86,7 @@ same-length-5 : tie.Need-same-length-5 Inv-loop μ-loop
 same-length-5 c = c .before .before .loop .inv .4
 
 returns : tie.Need-returns Inv-loop μ-loop
-returns c =
-    let i = c .before .before .loop .inv .0 in
-    let p = c .before .before .before .before .before .before .before .before .before .pre .1 in
-    left-done (rows-end _ _ _ 64 _ _ (omega arith) _ (omega arith)) (omega arith) (i .left)
+returns c = let i = c .before .before .loop .inv .0 in up-done i (rows-end _ _ _ 64 _ _ (omega arith) _ (omega arith))
 
 pub tile-rows-spec : {M : Type 1} → statement M
 tile-rows-spec =

@@ -8,36 +8,25 @@ use Rattle.solid_tiles.proofs.WalkLaws.{first-in, folds-walked}
 use borrow.Author.Needs.{needs}
 use Rattle.solid_tiles.proofs.tiles.tile_solid.Statement.{statement}
 use Rattle.solid_tiles.proofs.tiles.tile_solid.Tie as tie
-use Rattle.solid_tiles.proofs.tiles.tile_solid.Reads as reads
-use Rattle.solid_tiles.proofs.tiles.tile_solid.Lts as lts
-use Rattle.picture.proofs.heights.clear.Reads as clear-reads
-use Rattle.solid_tiles.proofs.cell.cell_at.Reads as cell-at-reads
-use Rattle.solid_tiles.proofs.tiles.tile_layers.Reads as tile-layers-reads
 
--- src/tiles.rt:93:5
 clear-requires : tie.Need-clear-requires
 clear-requires c κs = search needs
 
--- src/tiles.rt:94:9
 cell-at-requires : tie.Need-cell-at-requires
 cell-at-requires c κs =
     let s = c .before .before .before .before .before .before .before in
     let e = s .pre .1 .0 .fault in
     (e, (first-in _ e, (omega arith, omega arith)))
 
--- src/tiles.rt:98:52
 slice-aggregate-tile-layers : tie.Need-slice-aggregate-tile-layers
 slice-aggregate-tile-layers c = search needs
 
--- src/tiles.rt:98:64
 slice-aggregate-tile-layers-2 : tie.Need-slice-aggregate-tile-layers-2
 slice-aggregate-tile-layers-2 c = search needs
 
--- src/tiles.rt:98:77
 slice-aggregate-tile-layers-3 : tie.Need-slice-aggregate-tile-layers-3
 slice-aggregate-tile-layers-3 c = search needs
 
--- src/tiles.rt:98:5
 tile-layers-requires : tie.Need-tile-layers-requires
 tile-layers-requires c κs =
     let s = c .before .before .before .before .before .before .before .before .before .before .before .before .before in
@@ -50,15 +39,12 @@ tile-layers-requires c κs =
       ),
     )
 
--- src/tiles.rt:87:1
 same-length : tie.Need-same-length
 same-length c = search needs
 
--- src/tiles.rt:87:1
 same-length-2 : tie.Need-same-length-2
 same-length-2 c = search needs
 
--- src/tiles.rt:87:1
 returns : tie.Need-returns
 returns c =
     let u = c .before .before .before .before .before .before .before in

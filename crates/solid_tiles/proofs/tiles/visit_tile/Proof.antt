@@ -1,6 +1,5 @@
 -- Done by the look, or cut and its children visited.
-use mathlib.Core.Path.{_≡_, refl, ap, _∙_}
-use mathlib.Core.List.{[]}
+use mathlib.Core.Path.{refl, ap}
 use native.Mathlib.Omega.{arith}
 use Rattle.rules.specs.Drawings.{Region, region}
 use Rattle.solid_tiles.specs.Cells.{CellOf, regionIn}
