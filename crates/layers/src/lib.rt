@@ -1,13 +1,15 @@
 // The public calls. Each checks what it is lent, in the scope paper's order, and then calls.
+mod flat;
 mod refusal;
+mod solid;
 
-use crate::refusal::prepare;
-use picture::bits::clear;
-use picture::grid::Grid;
+pub use flat::draw_flat;
+pub use flat::tile_flat;
+pub use solid::draw_solid;
+pub use solid::tile_solid;
 use tape::pack::pack;
 use tape::pack::unpack;
-ghost use mathlib.Core.Bool.{true, false};
-ghost use Rattle.layers.specs.Says.{PackSays, UnpackSays, FullSays, TilesSay, BitmapSays, HeightsSay};
+ghost use Rattle.layers.specs.Says.{PackSays, UnpackSays, BitmapSays, HeightsSay};
 
 // The least length of a work buffer.
 pub const WORK_LIMIT: usize = 32768;
@@ -50,110 +52,6 @@ pub fn unpack_tape(tape: &[u8], out: &mut [i32]) -> Listed
     Listed {
         answer: answer,
         slots: p.slots,
-    }
-}
-
-pub fn draw_flat(tape: &[u8], grid: Grid, picture: &mut [u8]) -> Answer
-    ensures { λ r. ⌜ FullSays false (now (tape .entry)) grid (now (picture .entry)) (now (picture .exit)) r ⌝ }
-{
-    let mut words = [0u64; 1024];
-    let ready = prepare(false, tape, grid, picture.len(), &mut words);
-    let number = ready.number;
-    let n = ready.clauses;
-    if number != 0 {
-        return Answer {
-            number: number,
-            place: ready.place,
-            count: 0,
-        };
-    }
-    let count = full_drawing::flat::draw_flat(&words[..n], grid, picture);
-    Answer {
-        number: 0,
-        place: 0,
-        count: count,
-    }
-}
-
-pub fn draw_solid(tape: &[u8], grid: Grid, picture: &mut [u16]) -> Answer
-    ensures { λ r. ⌜ FullSays true (now (tape .entry)) grid (now (picture .entry)) (now (picture .exit)) r ⌝ }
-{
-    let mut words = [0u64; 1024];
-    let ready = prepare(true, tape, grid, picture.len(), &mut words);
-    let number = ready.number;
-    let n = ready.clauses;
-    if number != 0 {
-        return Answer {
-            number: number,
-            place: ready.place,
-            count: 0,
-        };
-    }
-    let count = full_drawing::solid::draw_solid(&words[..n], grid, picture);
-    Answer {
-        number: 0,
-        place: 0,
-        count: count,
-    }
-}
-
-pub fn tile_flat(tape: &[u8], grid: Grid, picture: &mut [u8], work: &mut [u8]) -> Answer
-    ensures { λ r. ⌜ TilesSay false (now (tape .entry)) grid (now (picture .entry)) (now (picture .exit)) (now (work .entry)) (now (work .exit)) r ⌝ }
-{
-    let mut words = [0u64; 1024];
-    let ready = prepare(false, tape, grid, picture.len(), &mut words);
-    let number = ready.number;
-    let n = ready.clauses;
-    if number != 0 {
-        return Answer {
-            number: number,
-            place: ready.place,
-            count: 0,
-        };
-    }
-    if work.len() < WORK_LIMIT {
-        return Answer {
-            number: 13,
-            place: 0,
-            count: 0,
-        };
-    }
-    let count = flat_tiles::tiles::tile_flat(&words[..n], grid, picture, work);
-    clear(work);
-    Answer {
-        number: 0,
-        place: 0,
-        count: count,
-    }
-}
-
-pub fn tile_solid(tape: &[u8], grid: Grid, picture: &mut [u16], work: &mut [u8]) -> Answer
-    ensures { λ r. ⌜ TilesSay true (now (tape .entry)) grid (now (picture .entry)) (now (picture .exit)) (now (work .entry)) (now (work .exit)) r ⌝ }
-{
-    let mut words = [0u64; 1024];
-    let ready = prepare(true, tape, grid, picture.len(), &mut words);
-    let number = ready.number;
-    let n = ready.clauses;
-    if number != 0 {
-        return Answer {
-            number: number,
-            place: ready.place,
-            count: 0,
-        };
-    }
-    if work.len() < WORK_LIMIT {
-        return Answer {
-            number: 13,
-            place: 0,
-            count: 0,
-        };
-    }
-    let count = solid_tiles::tiles::tile_solid(&words[..n], grid, picture, work);
-    clear(work);
-    Answer {
-        number: 0,
-        place: 0,
-        count: count,
     }
 }
 

@@ -9,8 +9,8 @@ use Rattle.layers.proofs.Refusals.{flat-size}
 use Rattle.layers.proofs.Drawing.{ready, words-room}
 use Rattle.layers.proofs.Tiling.{sound, flat-picture, tiles-refused, tiles-short, tiles-done}
 use borrow.Author.Needs.{needs}
-use Rattle.layers.proofs.tile_flat.Statement.{statement}
-use Rattle.layers.proofs.tile_flat.Tie as tie
+use Rattle.layers.proofs.flat.tile_flat.Statement.{statement}
+use Rattle.layers.proofs.flat.tile_flat.Tie as tie
 
 -- The words of the tape are among those there are.
 fits : (c : tie.Else1) → (let p = c .before .before .prepare in p .result .clauses ≤ length (p .last .1 .1 .1 .1 .0))

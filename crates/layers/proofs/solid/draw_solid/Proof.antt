@@ -7,8 +7,8 @@ use lib.Seq.{length-take-le}
 use Rattle.layers.proofs.Refusals.{solid-size}
 use Rattle.layers.proofs.Drawing.{ready, words-room, words-few, drawable, full-refused, full-done}
 use borrow.Author.Needs.{needs}
-use Rattle.layers.proofs.draw_solid.Statement.{statement}
-use Rattle.layers.proofs.draw_solid.Tie as tie
+use Rattle.layers.proofs.solid.draw_solid.Statement.{statement}
+use Rattle.layers.proofs.solid.draw_solid.Tie as tie
 
 -- The words of the tape are among those there are.
 fits : (c : tie.Else1) → (let p = c .before .before .prepare in p .result .clauses ≤ length (p .last .1 .1 .1 .1 .0))
