@@ -257,3 +257,23 @@ fn least_constant_is_refused() {
     let numbers = compare(&mut r, &tape, g, flat_len(&g), (g.width * g.height) as usize, WORK);
     assert_eq!(numbers, [8; 4]);
 }
+
+/// A drawing by tiles runs on 64 KiB of stack beyond what is lent, with some room for the thread itself.
+#[test]
+fn tiles_use_little_stack() {
+    let mut r = random("tiles_use_little_stack", 0x5EED_0006);
+    let (slots, list) = list(&mut r);
+    let tape = slow::tape::Tape::from_list(slots, &list).expect("an accepted list").to_bytes();
+    let g = Grid { width: 90, height: 70, depth: 70, ..grid(&mut r, 1, 1) };
+    let g = Grid { xfirst: 0, yfirst: 0, zfirst: 0, xstep: 1000, ystep: 1000, zstep: 1000, ..g };
+    let mut flat = vec![0; flat_len(&g)];
+    let mut solid = vec![0; (g.width * g.height) as usize];
+    let mut work = vec![0; WORK];
+    let draw = move || {
+        let a = layers::tile_flat(&tape, g, &mut flat, &mut work);
+        let b = layers::tile_solid(&tape, g, &mut solid, &mut work);
+        (a.number, b.number)
+    };
+    let thread = std::thread::Builder::new().stack_size(72 * 1024).spawn(draw).expect("a thread");
+    assert_eq!(thread.join().expect("no overflow"), (0, 0));
+}
