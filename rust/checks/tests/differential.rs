@@ -1,7 +1,7 @@
 //! The proved core against the slow drawing, call by call: answers, and every byte of every lent buffer, which start full of
 //! noise. Seeds are fixed and printed; LAYERS_CASES=n runs n cases of each kind.
 
-use layers::{Answer, Grid, WORK};
+use layers::raw::{Answer, Grid, WORK};
 use slow::call;
 
 struct Random(u64);
@@ -119,22 +119,22 @@ fn compare(r: &mut Random, tape: &[u8], g: Grid, flat_len: usize, solid_len: usi
     let work = r.bytes(work_len);
 
     let (mut a, mut b) = (flat.clone(), flat.clone());
-    let (p, q) = (layers::draw_flat(tape, g, &mut a), call::draw(tape, &s, &mut b));
+    let (p, q) = (layers::raw::draw_flat(tape, g, &mut a), call::draw(tape, &s, &mut b));
     assert!(same(p, q) && a == b, "draw_flat {g:?} {tape:?}: {p:?} {q:?}");
     let full_flat = p.number;
 
     let (mut a, mut b) = (solid.clone(), solid.clone());
-    let (p, q) = (layers::draw_solid(tape, g, &mut a), call::draw(tape, &s, &mut b));
+    let (p, q) = (layers::raw::draw_solid(tape, g, &mut a), call::draw(tape, &s, &mut b));
     assert!(same(p, q) && a == b, "draw_solid {g:?} {tape:?}: {p:?} {q:?}");
     let full_solid = p.number;
 
     let (mut a, mut b, mut w, mut v) = (flat.clone(), flat, work.clone(), work.clone());
-    let (p, q) = (layers::tile_flat(tape, g, &mut a, &mut w), call::tile(tape, &s, &mut b, &mut v));
+    let (p, q) = (layers::raw::tile_flat(tape, g, &mut a, &mut w), call::tile(tape, &s, &mut b, &mut v));
     assert!(same(p, q) && a == b && w == v, "tile_flat {g:?} {tape:?}: {p:?} {q:?}");
     let tile_flat = p.number;
 
     let (mut a, mut b, mut w, mut v) = (solid.clone(), solid, work.clone(), work);
-    let (p, q) = (layers::tile_solid(tape, g, &mut a, &mut w), call::tile(tape, &s, &mut b, &mut v));
+    let (p, q) = (layers::raw::tile_solid(tape, g, &mut a, &mut w), call::tile(tape, &s, &mut b, &mut v));
     assert!(same(p, q) && a == b && w == v, "tile_solid {g:?} {tape:?}: {p:?} {q:?}");
     [full_flat, full_solid, tile_flat, p.number]
 }
@@ -212,12 +212,12 @@ fn lists_and_tapes() {
         }
         let noise = r.bytes(8 + 10 * (list.len() / 5) + extra);
         let (mut a, mut b) = (noise.clone(), noise);
-        let (p, q) = (layers::pack_tape(slots, &list, &mut a), call::pack_tape(slots, &list, &mut b));
+        let (p, q) = (layers::raw::pack_tape(slots, &list, &mut a), call::pack_tape(slots, &list, &mut b));
         assert!(same(p, q) && a == b, "pack {slots} {list:?}: {p:?} {q:?}");
 
         let numbers: Vec<i32> = (0..list.len() + extra).map(|_| r.next() as i32).collect();
         let (mut x, mut y) = (numbers.clone(), numbers);
-        let p = layers::unpack_tape(&a, &mut x);
+        let p = layers::raw::unpack_tape(&a, &mut x);
         let (q, n) = call::unpack_tape(&a, &mut y);
         assert!(same(p.answer, q) && p.slots == n && x == y, "unpack {a:?}: {p:?} {q:?}");
     }
@@ -235,7 +235,7 @@ fn files() {
         let len = (format!("P4\n{w} {h}\n").len() + bits + off(&mut r)).saturating_sub(1);
         let noise = r.bytes(len);
         let (mut a, mut b) = (noise.clone(), noise);
-        let (p, q) = (layers::write_bitmap(w, h, &picture, &mut a), call::write_bitmap(w, h, &picture, &mut b));
+        let (p, q) = (layers::raw::write_bitmap(w, h, &picture, &mut a), call::write_bitmap(w, h, &picture, &mut b));
         assert!(same(p, q) && a == b, "bitmap {w} {h}: {p:?} {q:?}");
 
         let pixels = ((w * h) as usize + off(&mut r)).saturating_sub(1);
@@ -243,7 +243,7 @@ fn files() {
         let len = (format!("P5\n{w} {h}\n65535\n").len() + 2 * pixels + off(&mut r)).saturating_sub(1);
         let noise = r.bytes(len);
         let (mut a, mut b) = (noise.clone(), noise);
-        let (p, q) = (layers::write_heights(w, h, &heights, &mut a), call::write_heights(w, h, &heights, &mut b));
+        let (p, q) = (layers::raw::write_heights(w, h, &heights, &mut a), call::write_heights(w, h, &heights, &mut b));
         assert!(same(p, q) && a == b, "heights {w} {h}: {p:?} {q:?}");
     }
 }
@@ -270,8 +270,8 @@ fn tiles_use_little_stack() {
     let mut solid = vec![0; (g.width * g.height) as usize];
     let mut work = vec![0; WORK];
     let draw = move || {
-        let a = layers::tile_flat(&tape, g, &mut flat, &mut work);
-        let b = layers::tile_solid(&tape, g, &mut solid, &mut work);
+        let a = layers::raw::tile_flat(&tape, g, &mut flat, &mut work);
+        let b = layers::raw::tile_solid(&tape, g, &mut solid, &mut work);
         (a.number, b.number)
     };
     let thread = std::thread::Builder::new().stack_size(72 * 1024).spawn(draw).expect("a thread");

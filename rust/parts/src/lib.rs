@@ -1,0 +1,1 @@
+//! Example parts, built of simple shapes.
