@@ -1,5 +1,50 @@
-//! The proved layer core for Rust. Each call takes any input: a refusal leaves every lent byte as it was.
+//! The proved layer core for Rust: pictures of implicit parts, drawn exactly.
+//!
+//! A part is a formula, flattened into a [`Tape`] of small steps, each a [`Clause`]. A sample has material exactly if
+//! the formula is below 0 there. A [`Grid`] says where the samples are. A [`Bitmap`] is one layer of the part, a
+//! [`Heightmap`] the part seen from above. Values are whole numbers that count units of 1/65,536: [`fixed`] makes them.
+//!
+//! The part x − 2 on three columns and two rows, with samples at x = 0, 1 and 2:
+//!
+//! ```
+//! use layers::{fixed, Bitmap, Clause, Grid, Tape};
+//!
+//! let tape = Tape::from_clauses(2, &[Clause::x(0), Clause::constant(1, fixed(2.0)), Clause::subtract(0, 0, 1)])?;
+//! let drawn = Bitmap::draw(&tape, &Grid::flat(3, 2))?;
+//!
+//! assert_eq!(drawn.picture.to_netpbm(), [0x50, 0x34, 0x0A, 0x33, 0x20, 0x32, 0x0A, 0xC0, 0xC0]);
+//! assert_eq!(drawn.count, 24);
+//! # Ok::<(), layers::Refusal>(())
+//! ```
+//!
+//! What is wrong with an input comes back as a [`Refusal`], one variant for each line of the core's table. Every byte
+//! of a picture and a file comes from the proved core, and so does every verdict on a tape; this crate makes the memory
+//! that the core is lent, and turns its numbers into Rust's types. [`raw`] has the core's own calls, for those who lend
+//! memory themselves.
 
+#![deny(unsafe_code)]
+#![warn(missing_docs)]
+
+#[allow(unsafe_code)]
 pub mod raw;
 
+mod bitmap;
+mod clause;
+mod drawing;
+mod fixed;
+mod grid;
+mod heightmap;
+mod lend;
+mod netpbm;
+mod refusal;
+mod tape;
+
+pub use bitmap::Bitmap;
+pub use clause::{Clause, Opcode};
+pub use drawing::{Drawn, Work};
+pub use fixed::{ONE, fixed};
+pub use grid::MAX_SIZE;
+pub use heightmap::Heightmap;
 pub use raw::Grid;
+pub use refusal::Refusal;
+pub use tape::{MAX_CLAUSES, MAX_SLOTS, Tape};

@@ -1,46 +1,77 @@
 //! The calls as the core has them: lent slices in, an answer by number out. The C interface is include/layers.h's. All
 //! unsafe code is here.
+//!
+//! Done, a call has written the whole output or picture and cleared the whole work buffer. Refused, it has changed
+//! nothing.
 
-/// The number of the table of refusals (0: done), the clause at fault, and the clauses counted.
+/// What comes back of every call. [`into_result`](Answer::into_result) makes Rust's own form of it.
 #[repr(C)]
 #[derive(Clone, Copy, Debug, PartialEq, Eq)]
 pub struct Answer {
+    /// A number of the table of refusals, or 0: done.
     pub number: u8,
+    /// The clause at fault for the numbers 5 to 9, otherwise 0.
     pub place: u32,
+    /// The clauses counted by a drawing, otherwise 0.
     pub count: u64,
 }
 
-/// The answer of unpacking, with the tape's slot count.
+/// What comes back of unpacking.
 #[repr(C)]
 #[derive(Clone, Copy, Debug, PartialEq, Eq)]
 pub struct Listed {
+    /// The answer.
     pub answer: Answer,
+    /// The tape's slot count, or 0 if it is refused.
     pub slots: u8,
 }
 
-/// A grid. A flat drawing reads neither depth nor zstep; its one z is zfirst.
+/// Where the samples of a picture are: sample i on an axis is first + i · step, in units of 1/65,536.
+///
+/// A flat drawing reads neither `depth` nor `zstep`; its one z is `zfirst`.
+///
+/// ```
+/// use layers::{fixed, Grid};
+///
+/// // 100 by 80 samples, a quarter apart, the first at (−12.5, −10), at the height 3
+/// let grid = Grid::flat(100, 80).step(fixed(0.25), fixed(0.25), 1).origin(fixed(-12.5), fixed(-10.0), fixed(3.0));
+/// assert_eq!((grid.width, grid.xfirst, grid.xstep, grid.zfirst), (100, -819_200, 16_384, 196_608));
+///
+/// let next = Grid { zfirst: fixed(3.25), ..grid };
+/// assert_eq!(next.xfirst, grid.xfirst);
+/// ```
 #[repr(C)]
-#[derive(Clone, Copy, Debug, PartialEq, Eq)]
+#[derive(Clone, Copy, Debug, PartialEq, Eq, Hash)]
 pub struct Grid {
+    /// The number of columns.
     pub width: u32,
+    /// The number of rows.
     pub height: u32,
+    /// The number of samples along z.
     pub depth: u32,
+    /// x of the first column.
     pub xfirst: i32,
+    /// y of the first row.
     pub yfirst: i32,
+    /// z of the lowest sample, or of all samples of a flat drawing.
     pub zfirst: i32,
+    /// The distance between columns.
     pub xstep: i32,
+    /// The distance between rows.
     pub ystep: i32,
+    /// The distance between samples along z.
     pub zstep: i32,
 }
 
-/// The least length of a work buffer.
+/// The least length of a work buffer, in bytes.
 pub const WORK: usize = 32_768;
 
-extern "C" {
+unsafe extern "C" {
     fn layers_pack_tape(slots: u32, list: *const i32, list_len: usize, out: *mut u8, out_len: usize) -> Answer;
     fn layers_unpack_tape(tape: *const u8, tape_len: usize, out: *mut i32, out_len: usize) -> Listed;
     fn layers_draw_flat(tape: *const u8, tape_len: usize, grid: Grid, picture: *mut u8, picture_len: usize) -> Answer;
-    fn layers_draw_solid(tape: *const u8, tape_len: usize, grid: Grid, picture: *mut u16, picture_len: usize) -> Answer;
+    fn layers_draw_solid(tape: *const u8, tape_len: usize, grid: Grid, picture: *mut u16, picture_len: usize)
+    -> Answer;
     fn layers_tile_flat(
         tape: *const u8,
         tape_len: usize,
@@ -59,44 +90,83 @@ extern "C" {
         work: *mut u8,
         work_len: usize,
     ) -> Answer;
-    fn layers_write_bitmap(width: u32, height: u32, picture: *const u8, picture_len: usize, out: *mut u8, out_len: usize) -> Answer;
-    fn layers_write_heights(width: u32, height: u32, picture: *const u16, picture_len: usize, out: *mut u8, out_len: usize) -> Answer;
+    fn layers_write_bitmap(
+        width: u32,
+        height: u32,
+        picture: *const u8,
+        picture_len: usize,
+        out: *mut u8,
+        out_len: usize,
+    ) -> Answer;
+    fn layers_write_heights(
+        width: u32,
+        height: u32,
+        picture: *const u16,
+        picture_len: usize,
+        out: *mut u8,
+        out_len: usize,
+    ) -> Answer;
 }
 
-// Each call takes any input and keeps no pointer, so a slice's pointer and length are all that it asks for.
+// SAFETY, of every call below: it takes any input, reads and writes within the lengths lent, and keeps no pointer, so a
+// slice's pointer and length are all that it asks for; borrows keep what is written apart from the rest.
 
+/// Packs a list, five numbers to a clause, into a tape of 8 + 10 bytes a clause.
 pub fn pack_tape(slots: u32, list: &[i32], out: &mut [u8]) -> Answer {
     unsafe { layers_pack_tape(slots, list.as_ptr(), list.len(), out.as_mut_ptr(), out.len()) }
 }
 
+/// Unpacks a tape into a list, five numbers to a clause.
 pub fn unpack_tape(tape: &[u8], out: &mut [i32]) -> Listed {
     unsafe { layers_unpack_tape(tape.as_ptr(), tape.len(), out.as_mut_ptr(), out.len()) }
 }
 
+/// The flat drawing in full: `width` / 8 bytes, rounded up, a row.
 pub fn draw_flat(tape: &[u8], grid: Grid, picture: &mut [u8]) -> Answer {
     unsafe { layers_draw_flat(tape.as_ptr(), tape.len(), grid, picture.as_mut_ptr(), picture.len()) }
 }
 
+/// The solid drawing in full: one height a pixel.
 pub fn draw_solid(tape: &[u8], grid: Grid, picture: &mut [u16]) -> Answer {
     unsafe { layers_draw_solid(tape.as_ptr(), tape.len(), grid, picture.as_mut_ptr(), picture.len()) }
 }
 
+/// The same picture as [`draw_flat`]'s, drawn by tiles, with at least [`WORK`] bytes to work in.
 pub fn tile_flat(tape: &[u8], grid: Grid, picture: &mut [u8], work: &mut [u8]) -> Answer {
     unsafe {
-        layers_tile_flat(tape.as_ptr(), tape.len(), grid, picture.as_mut_ptr(), picture.len(), work.as_mut_ptr(), work.len())
+        layers_tile_flat(
+            tape.as_ptr(),
+            tape.len(),
+            grid,
+            picture.as_mut_ptr(),
+            picture.len(),
+            work.as_mut_ptr(),
+            work.len(),
+        )
     }
 }
 
+/// The same picture as [`draw_solid`]'s, drawn by tiles, with at least [`WORK`] bytes to work in.
 pub fn tile_solid(tape: &[u8], grid: Grid, picture: &mut [u16], work: &mut [u8]) -> Answer {
     unsafe {
-        layers_tile_solid(tape.as_ptr(), tape.len(), grid, picture.as_mut_ptr(), picture.len(), work.as_mut_ptr(), work.len())
+        layers_tile_solid(
+            tape.as_ptr(),
+            tape.len(),
+            grid,
+            picture.as_mut_ptr(),
+            picture.len(),
+            work.as_mut_ptr(),
+            work.len(),
+        )
     }
 }
 
+/// The Netpbm bitmap file of a flat picture.
 pub fn write_bitmap(width: u32, height: u32, picture: &[u8], out: &mut [u8]) -> Answer {
     unsafe { layers_write_bitmap(width, height, picture.as_ptr(), picture.len(), out.as_mut_ptr(), out.len()) }
 }
 
+/// The Netpbm grey file of a solid's heights.
 pub fn write_heights(width: u32, height: u32, picture: &[u16], out: &mut [u8]) -> Answer {
     unsafe { layers_write_heights(width, height, picture.as_ptr(), picture.len(), out.as_mut_ptr(), out.len()) }
 }

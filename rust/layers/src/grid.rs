@@ -1,0 +1,48 @@
+//! Where the samples of a picture are.
+
+use crate::ONE;
+use crate::raw::Grid;
+
+/// The most samples along an axis.
+pub const MAX_SIZE: u32 = 512;
+
+impl Grid {
+    /// A grid for a bitmap: samples from 0 in steps of 1, with z = 0.
+    pub const fn flat(width: u32, height: u32) -> Grid {
+        Grid::solid(width, height, 0)
+    }
+
+    /// A grid for a heightmap: samples from 0 in steps of 1.
+    pub const fn solid(width: u32, height: u32, depth: u32) -> Grid {
+        Grid { width, height, depth, xfirst: 0, yfirst: 0, zfirst: 0, xstep: ONE, ystep: ONE, zstep: ONE }
+    }
+
+    /// The same grid with its first samples there, in units of 1/65,536.
+    pub const fn origin(self, x: i32, y: i32, z: i32) -> Grid {
+        Grid { xfirst: x, yfirst: y, zfirst: z, ..self }
+    }
+
+    /// The same grid with samples that far apart, in units of 1/65,536.
+    pub const fn step(self, x: i32, y: i32, z: i32) -> Grid {
+        Grid { xstep: x, ystep: y, zstep: z, ..self }
+    }
+}
+
+#[cfg(test)]
+mod tests {
+    use super::*;
+
+    #[test]
+    fn each_number_goes_to_its_field() {
+        let grid = Grid::solid(1, 2, 3).origin(4, 5, 6).step(7, 8, 9);
+        let expected =
+            Grid { width: 1, height: 2, depth: 3, xfirst: 4, yfirst: 5, zfirst: 6, xstep: 7, ystep: 8, zstep: 9 };
+        assert_eq!(grid, expected);
+    }
+
+    #[test]
+    fn samples_begin_at_0_in_steps_of_1() {
+        let grid = Grid::flat(1, 2);
+        assert_eq!(grid, Grid::solid(1, 2, 0).origin(0, 0, 0).step(65_536, 65_536, 65_536));
+    }
+}

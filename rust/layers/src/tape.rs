@@ -1,0 +1,183 @@
+//! Tapes that the core accepts.
+
+use crate::lend::filled;
+use crate::{Clause, Refusal, raw};
+
+/// The most slots of a tape.
+pub const MAX_SLOTS: u8 = 64;
+
+/// The most clauses of a tape.
+pub const MAX_CLAUSES: usize = 1024;
+
+const HEAD_BYTES: usize = 8;
+const CLAUSE_BYTES: usize = 10;
+const LIST_NUMBERS: usize = 5;
+
+/// A formula as a list of clauses, in the bytes that the core reads and files hold. Clauses run in order; the result is
+/// the slot that the last one writes. The core accepts every tape of this type.
+///
+/// ```
+/// use layers::{fixed, Clause, Refusal, Tape};
+///
+/// // a disc: the distance from the middle, less the radius
+/// let disc = [
+///     Clause::x(0),
+///     Clause::square(0, 0),
+///     Clause::y(1),
+///     Clause::square(1, 1),
+///     Clause::add(0, 0, 1),
+///     Clause::root(0, 0),
+///     Clause::constant(1, fixed(12.5)),
+///     Clause::subtract(0, 0, 1),
+/// ];
+/// let tape = Tape::from_clauses(2, &disc)?;
+/// assert_eq!(tape.clauses(), disc);
+///
+/// let mut bytes = tape.as_bytes().to_vec();
+/// assert_eq!(Tape::from_bytes(&bytes[..])?, tape);
+/// bytes[8 + 10 * 3 + 2] = 99; // the opcode of clause 3
+/// assert_eq!(Tape::from_bytes(bytes), Err(Refusal::UnknownClause { clause: 3 }));
+/// # Ok::<(), Refusal>(())
+/// ```
+#[derive(Clone, Debug, PartialEq, Eq, Hash)]
+pub struct Tape {
+    bytes: Vec<u8>,
+}
+
+impl Tape {
+    /// The tape of these bytes, unless a line from 1 to 9 of the table of refusals turns them down.
+    pub fn from_bytes(bytes: impl Into<Vec<u8>>) -> Result<Tape, Refusal> {
+        let bytes = bytes.into();
+        unpacked(&bytes)?;
+        Ok(Tape { bytes })
+    }
+
+    /// The tape of a list, five numbers to a clause: opcode, out, left, right, constant.
+    pub fn from_list(slots: u8, list: &[i32]) -> Result<Tape, Refusal> {
+        let len = HEAD_BYTES + CLAUSE_BYTES * (list.len() / LIST_NUMBERS);
+        let (bytes, _) = filled(len, |out| raw::pack_tape(slots.into(), list, out))?;
+        Ok(Tape { bytes })
+    }
+
+    /// The tape of these clauses.
+    pub fn from_clauses(slots: u8, clauses: &[Clause]) -> Result<Tape, Refusal> {
+        let list: Vec<i32> = clauses.iter().flat_map(|clause| clause.numbers()).collect();
+        Tape::from_list(slots, &list)
+    }
+
+    /// The list, five numbers to a clause.
+    pub fn to_list(&self) -> Vec<i32> {
+        unpacked(&self.bytes).expect("the tape was accepted")
+    }
+
+    /// The clauses, in order.
+    pub fn clauses(&self) -> Vec<Clause> {
+        self.to_list().chunks(LIST_NUMBERS).map(Clause::from_accepted).collect()
+    }
+
+    /// The slot count.
+    pub fn slots(&self) -> u8 {
+        self.bytes[3]
+    }
+
+    /// The tape's bytes: a head of 8, then 10 for each clause.
+    pub fn as_bytes(&self) -> &[u8] {
+        &self.bytes
+    }
+}
+
+/// The list of a tape. The output has the length that the head asks for, so line 14 never holds, and lines 1 to 9 alone
+/// turn bytes down.
+fn unpacked(bytes: &[u8]) -> Result<Vec<i32>, Refusal> {
+    let clauses = match bytes {
+        [_, _, _, _, low, high, ..] => u16::from_le_bytes([*low, *high]).into(),
+        _ => 0,
+    };
+    let (list, _) = filled(LIST_NUMBERS * clauses, |out| raw::unpack_tape(bytes, out).answer)?;
+    Ok(list)
+}
+
+#[cfg(test)]
+mod tests {
+    use super::*;
+
+    /// The bytes of the paper's drawn figure: x − 2.
+    const FIGURE: [u8; 38] = [
+        0x54, 0x50, 0x01, 0x02, 0x03, 0x00, 0x00, 0x00, //
+        0x43, 0x4C, 0x01, 0x00, 0x00, 0x00, 0x00, 0x00, 0x00, 0x00, //
+        0x43, 0x4C, 0x00, 0x01, 0x00, 0x00, 0x00, 0x00, 0x02, 0x00, //
+        0x43, 0x4C, 0x0A, 0x00, 0x00, 0x01, 0x00, 0x00, 0x00, 0x00,
+    ];
+
+    #[test]
+    fn bytes_list_and_clauses_are_one_tape() {
+        let list = [1, 0, 0, 0, 0, 0, 1, 0, 0, 131_072, 10, 0, 0, 1, 0];
+        let clauses = [Clause::x(0), Clause::constant(1, 131_072), Clause::subtract(0, 0, 1)];
+        let tape = Tape::from_bytes(FIGURE).unwrap();
+        assert_eq!(tape.as_bytes(), FIGURE);
+        assert_eq!(tape.slots(), 2);
+        assert_eq!(tape.to_list(), list);
+        assert_eq!(tape.clauses(), clauses);
+        assert_eq!(Tape::from_list(2, &list).unwrap(), tape);
+        assert_eq!(Tape::from_clauses(2, &clauses).unwrap(), tape);
+    }
+
+    #[test]
+    fn damaged_bytes_are_refused_by_number_and_place() {
+        let damages: [(usize, u8, u8, Option<u32>); 12] = [
+            (0, 0x55, 2, None),
+            (2, 2, 2, None),
+            (7, 1, 2, None),
+            (3, 0, 3, None),
+            (3, 65, 3, None),
+            (5, 0xFF, 3, None),
+            (4, 2, 4, None),
+            (9, 0, 5, Some(0)),
+            (20, 14, 5, Some(1)),
+            (33, 2, 6, Some(2)),
+            (23, 1, 7, Some(1)),
+            (21, 0, 9, Some(2)),
+        ];
+        for (at, byte, number, place) in damages {
+            let mut bytes = FIGURE;
+            assert_ne!(bytes[at], byte);
+            bytes[at] = byte;
+            let refusal = Tape::from_bytes(bytes).unwrap_err();
+            assert_eq!((refusal.number(), refusal.place()), (number, place), "byte {at}");
+        }
+    }
+
+    #[test]
+    fn lengths_that_do_not_fit_are_refused() {
+        for len in 0..8 {
+            assert_eq!(Tape::from_bytes(&FIGURE[..len]), Err(Refusal::ShortTape), "{len} bytes");
+        }
+        for len in 8..38 {
+            assert_eq!(Tape::from_bytes(&FIGURE[..len]), Err(Refusal::WrongLength), "{len} bytes");
+        }
+        assert_eq!(Tape::from_bytes([&FIGURE[..], &[0]].concat()), Err(Refusal::WrongLength));
+        assert_eq!(Tape::from_list(2, &[1, 0, 0, 0]), Err(Refusal::WrongLength));
+    }
+
+    #[test]
+    fn the_least_constant_is_refused() {
+        let clauses = [Clause::x(0), Clause::constant(0, i32::MIN)];
+        assert_eq!(Tape::from_clauses(1, &clauses), Err(Refusal::ConstantOutOfRange { clause: 1 }));
+        assert!(Tape::from_clauses(1, &[Clause::constant(0, i32::MIN + 1)]).is_ok());
+        let mut bytes = FIGURE;
+        bytes[24..28].copy_from_slice(&i32::MIN.to_le_bytes());
+        assert_eq!(Tape::from_bytes(bytes), Err(Refusal::ConstantOutOfRange { clause: 1 }));
+    }
+
+    #[test]
+    fn counts_pass_up_to_their_limits() {
+        let clauses = [Clause::x(0); MAX_CLAUSES + 1];
+        let tape = Tape::from_clauses(MAX_SLOTS, &clauses[1..]).unwrap();
+        assert_eq!((tape.slots(), tape.clauses().len()), (64, 1024));
+        assert_eq!(Tape::from_bytes(tape.as_bytes()), Ok(tape));
+        assert_eq!(Tape::from_clauses(MAX_SLOTS, &clauses), Err(Refusal::CountOutOfRange));
+        assert_eq!(Tape::from_clauses(MAX_SLOTS + 1, &clauses[1..]), Err(Refusal::CountOutOfRange));
+        assert_eq!(Tape::from_clauses(0, &clauses[1..]), Err(Refusal::CountOutOfRange));
+        assert_eq!(Tape::from_clauses(1, &[]), Err(Refusal::CountOutOfRange));
+    }
+}
