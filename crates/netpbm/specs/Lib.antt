@@ -2,3 +2,4 @@
 pub mod Appending
 pub mod FileParts
 pub mod Files
+pub mod Places

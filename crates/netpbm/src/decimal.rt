@@ -1,26 +1,37 @@
-// Numbers below 1,000 in decimal, without leading zeros.
+// Numbers in decimal, without leading zeros.
 ghost use mathlib.Core.Path.{_≡_};
 ghost use mathlib.Core.List.{_∷_, []};
-ghost use Prim.Native.Nat.{_+_, _≤_, _<_};
+ghost use Prim.Native.Nat.{_+_, _/_, _≤_, _<_};
 ghost use lib.ListN.{length};
-ghost use Rattle.rules.specs.Pictures.{decimal};
+ghost use Rattle.rules.specs.Program.{numeral};
 ghost use Rattle.netpbm.specs.Appending.{Appends};
+ghost use Rattle.netpbm.specs.Places.{Place};
 
 // How many digits there are.
-pub fn decimal_length(v: u32) -> usize
-    requires { ⌜ v < 1000 ⌝ }
-    ensures { λ r. ⌜ (r ≡ length (decimal v)) × (r ≤ 3) ⌝ }
+pub fn number_length(v: u64) -> usize
+    ensures { λ r. ⌜ (r ≡ length (numeral v)) × (1 ≤ r) × (r ≤ 20) ⌝ }
 {
-    if v >= 100 {
-        return 3;
+    let mut digits = 1;
+    let mut rest = v;
+    while rest >= 10 {
+        rest /= 10;
+        digits += 1;
     }
-    if v >= 10 {
-        return 2;
-    }
-    1
+    digits
 }
 
-fn put_digit(out: &mut [u8], at: usize, digit: u32) -> usize
+// What a 1 in the place of the first digit is worth.
+fn first_place(v: u64) -> u64
+    ensures { λ r. ⌜ Place v r × (v / r < 10) ⌝ }
+{
+    let mut place = 1;
+    while v / place >= 10 {
+        place *= 10;
+    }
+    place
+}
+
+fn put_digit(out: &mut [u8], at: usize, digit: u64) -> usize
     requires { ⌜ at < length (now out) ⌝ }
     requires { ⌜ digit < 10 ⌝ }
     ensures { λ r. ⌜ Appends (now (out .entry)) at ((48 + digit) ∷ []) (now (out .exit)) r ⌝ }
@@ -29,19 +40,16 @@ fn put_digit(out: &mut [u8], at: usize, digit: u32) -> usize
     at + 1
 }
 
-pub fn put_decimal(out: &mut [u8], at: usize, v: u32) -> usize
-    requires { ⌜ v < 1000 ⌝ }
-    requires { ⌜ at + length (decimal v) ≤ length (now out) ⌝ }
-    ensures { λ r. ⌜ Appends (now (out .entry)) at (decimal v) (now (out .exit)) r ⌝ }
+// From the first digit to the last.
+pub fn put_number(out: &mut [u8], at: usize, v: u64) -> usize
+    requires { ⌜ at + length (numeral v) ≤ length (now out) ⌝ }
+    ensures { λ r. ⌜ Appends (now (out .entry)) at (numeral v) (now (out .exit)) r ⌝ }
 {
-    if v < 10 {
-        return put_digit(out, at, v);
+    let mut place = first_place(v);
+    let mut next = put_digit(out, at, v / place);
+    while place >= 10 {
+        place /= 10;
+        next = put_digit(out, next, v / place % 10);
     }
-    if v < 100 {
-        let ones = put_digit(out, at, v / 10);
-        return put_digit(out, ones, v % 10);
-    }
-    let tens = put_digit(out, at, v / 100);
-    let ones = put_digit(out, tens, v / 10 % 10);
-    put_digit(out, ones, v % 10)
+    next
 }

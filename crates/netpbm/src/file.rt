@@ -1,6 +1,7 @@
 // The two Netpbm files: a flat picture as a bitmap, and heights.
-use crate::decimal::decimal_length;
-use crate::decimal::put_decimal;
+use crate::append::put;
+use crate::decimal::number_length;
+use crate::decimal::put_number;
 use picture::grid::size_ok;
 ghost use mathlib.Core.Path.{_≡_};
 ghost use mathlib.Core.List.{_∷_, [], _++_};
@@ -27,23 +28,8 @@ fn file_length(width: u32, height: u32, rest: usize) -> usize
     requires { ⌜ rest < 1000000 ⌝ }
     ensures { λ r. ⌜ ((k : ℕ) → r ≡ length (head k width height) + rest) ⌝ }
 {
-    let digits = decimal_length(width) + decimal_length(height);
+    let digits = number_length(width as u64) + number_length(height as u64);
     5 + digits + rest
-}
-
-// Copies s into out from `at` on.
-fn put(out: &mut [u8], at: usize, s: &[u8]) -> usize
-    requires { ⌜ at + length (now s) ≤ length (now out) ⌝ }
-    ensures { λ r. ⌜ Appends (now (out .entry)) at (now (s .entry)) (now (out .exit)) r ⌝ }
-{
-    let mut next = at;
-    let mut i = 0;
-    while i < s.len() {
-        out[next] = s[i];
-        next += 1;
-        i += 1;
-    }
-    next
 }
 
 // The line of sizes: width, a space, height, a newline.
@@ -53,9 +39,9 @@ fn put_sizes(out: &mut [u8], at: usize, width: u32, height: u32) -> usize
     requires { ⌜ at + length (decimal width) + length (decimal height) + 2 ≤ length (now out) ⌝ }
     ensures { λ r. ⌜ Appends (now (out .entry)) at (sizes width height) (now (out .exit)) r ⌝ }
 {
-    let after_width = put_decimal(out, at, width);
+    let after_width = put_number(out, at, width as u64);
     let after_space = put(out, after_width, b" ");
-    let after_height = put_decimal(out, after_space, height);
+    let after_height = put_number(out, after_space, height as u64);
     put(out, after_height, b"\n")
 }
 

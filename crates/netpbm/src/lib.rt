@@ -1,3 +1,4 @@
 // The Netpbm files made of pictures.
+pub mod append;
 pub mod decimal;
 pub mod file;

@@ -1,15 +1,18 @@
 -- `netpbm::file_length` meets its contract. Assumes nothing.
-use borrow.Author.Needs.{needs}
+use mathlib.Core.Path.{ap}
 use native.Mathlib.Omega.{arith}
+use lib.ListN.{length}
+use borrow.Author.Needs.{needs}
+use Rattle.netpbm.proofs.Digits.{as-size}
 use Rattle.netpbm.proofs.FileLaws.{length-head}
 use Rattle.netpbm.proofs.file.file_length.Statement.{statement}
 use Rattle.netpbm.proofs.file.file_length.Tie as tie
 
-decimal-length-requires : tie.Need-decimal-length-requires
-decimal-length-requires c κs = search needs
+number-length-requires : tie.Need-number-length-requires
+number-length-requires c κs = search needs
 
-decimal-length-requires-2 : tie.Need-decimal-length-requires-2
-decimal-length-requires-2 c κs = search needs
+number-length-requires-2 : tie.Need-number-length-requires-2
+number-length-requires-2 c κs = search needs
 
 add-digits : tie.Need-add-digits
 add-digits c = search needs
@@ -23,14 +26,14 @@ add-result-2 c = search needs
 returns : tie.Need-returns
 returns c k =
     let s = c .before .before .args in
-    omega (arith, length-head k (s .width) (s .height))
+    omega (arith, length-head k (s .width) (s .height), ap length (as-size (s .width) (omega arith)), ap length (as-size (s .height) (omega arith)))
 
 pub file-length-spec : {M : Type 1} → statement M
 file-length-spec =
     tie.close
     (tie.spec
-    decimal-length-requires
-    decimal-length-requires-2
+    number-length-requires
+    number-length-requires-2
     add-digits
     add-result
     add-result-2

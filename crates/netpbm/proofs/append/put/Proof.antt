@@ -1,4 +1,4 @@
--- `netpbm::put` meets its contract. The invariant of its loop: the first i bytes of s are written. The measure is what is left of s.
+-- `append::put` meets its contract. The invariant of its loop: the first i bytes of s are written. The measure is what is left of s.
 -- Assumes nothing.
 use mathlib.Core.Path.{_≡_}
 use Prim.Native.Nat.{_+_, _-_, _≤_}
@@ -6,8 +6,8 @@ use native.Mathlib.Omega.{arith}
 use lib.ListN.{length, take}
 use Rattle.netpbm.specs.Appending.{Appends}
 use Rattle.netpbm.proofs.Written.{nothing, copy-more, copy-done}
-use Rattle.netpbm.proofs.file.put.Statement.{statement}
-use Rattle.netpbm.proofs.file.put.Tie as tie
+use Rattle.netpbm.proofs.append.put.Statement.{statement}
+use Rattle.netpbm.proofs.append.put.Tie as tie
 
 abbrev Inv-loop : tie.InvT-loop
 Inv-loop out₀ at s next₀ i₀ out next i = (i ≤ length s) × (next ≡ at + i) × Appends out₀ at (take i s) out next
