@@ -31,3 +31,4 @@ pub mod RestatedDrawings
 pub mod RestatedPictures
 pub mod Demands
 pub mod Example
+pub mod Program

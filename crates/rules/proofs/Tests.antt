@@ -1,7 +1,7 @@
 -- What tests say that came out as they must: two tests in one, a chain of refusals that refuses nothing, a pick.
 use mathlib.Core.Path.{_≡_, refl}
 use mathlib.Core.Bool.{Bool, true, false, _&&_, _||_, true≢false, and-eq-true-iff}
-use Prim.Native.Nat.{ℕ, suc}
+use Prim.Native.Nat.{ℕ, zero, suc}
 use native.Mathlib.Omega.{arith}
 use Rattle.rules.specs.Values.{pick, firstOf, when}
 
@@ -31,6 +31,11 @@ tests-after false n m e = e
 pub last-off : (b : Bool) (n : ℕ) → when b (suc n) ≡ 0 → b ≡ false
 last-off true n e = absurd (omega arith)
 last-off false n e = refl
+
+-- The first number that is not 0, where none is: both are 0.
+pub first-zero : (a b : ℕ) → firstOf a b ≡ 0 → (a ≡ 0) × (b ≡ 0)
+first-zero zero b e = (refl, e)
+first-zero (suc a) b e = absurd (omega arith)
 
 -- What holds of both holds of the one that is picked.
 pub of-pick : {A : Type 0} (P : A → Type 0) (t : Bool) {x y : A} → P x → P y → P (pick t x y)

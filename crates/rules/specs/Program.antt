@@ -1,11 +1,11 @@
 -- The program: a grid record and a tape in, a Netpbm file and the count out, or one line that says what is refused.
 use mathlib.Core.Bool.{Bool, false, _&&_, _||_, not}
 use mathlib.Core.List.{List, [], _∷_, _++_}
-use Prim.Native.Nat.{ℕ}
+use Prim.Native.Nat.{ℕ, suc, _+_, _*_}
 use lib.Dec.{eqb, ltb, leb}
 use lib.ListN.{length, getD, drop}
 use Rattle.rules.specs.Values.{pick, firstOf, when}
-use Rattle.rules.specs.Tapes.{Tape, readTape, word, signed4}
+use Rattle.rules.specs.Tapes.{Tape, clauseLimit, readTape, word, signed4}
 use Rattle.rules.specs.Drawings.{Grid, solid, gridFault, walked}
 use Rattle.rules.specs.Pictures.{digitsFrom, picture, bitmapFile, heightFile}
 
@@ -30,6 +30,14 @@ gridRecord s =
 
 abbrev pub tapeAfter : List ℕ → List ℕ
 tapeAfter s = drop recordLength s
+
+-- No tape is longer than one of 1,024 clauses. One byte more than the longest input is enough to read of any: what is
+-- longer is refused whatever follows.
+abbrev pub longestInput : ℕ
+longestInput = recordLength + (8 + 10 * clauseLimit)
+
+abbrev pub inputLimit : ℕ
+inputLimit = suc longestInput
 
 -- Lines 15 and 16: "input below 32 bytes or grid mark wrong"; "depth above 0 and width or height above 128".
 unfoldable pub recordOk : List ℕ → Bool
