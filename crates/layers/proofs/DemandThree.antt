@@ -1,17 +1,16 @@
 -- Demand 3 of the calls: a tile drawing that is not turned down leaves the full drawing's picture, whatever the lent buffers
 -- held, and counts the walk's sum, each 64-tile's part of which is bounded.
-use mathlib.Core.Path.{_≡_, refl, sym, ap, _∙_}
+use mathlib.Core.Path.{_≡_, sym, ap, _∙_}
 use mathlib.Core.Bool.{Bool, true, false}
 use mathlib.Core.List.{List}
-use Prim.Native.Nat.{ℕ, zero, suc, _*_, _≤_}
-use native.Mathlib.Omega.{arith}
+use Prim.Native.Nat.{ℕ, _*_, _≤_}
 use lib.Dec.{eqb, ltb}
 use lib.ListN.{length}
 use borrow.Author.Tests.{eq-eqb}
-use Rattle.rules.specs.Values.{pick, firstOf, when}
 use Rattle.rules.specs.Tapes.{readTape}
 use Rattle.rules.specs.Drawings as D
 use Rattle.rules.specs.Pictures.{picture}
+use Rattle.rules.proofs.Tests.{first-zero}
 use Rattle.rules.proofs.Tiles.{demand-3}
 use Rattle.picture.specs.Shapes.{gridIn}
 use Rattle.picture.specs.declared.grid.Grid.{Grid}
@@ -29,10 +28,6 @@ pub record DrawnByTiles (isSolid : Bool) (s : List ℕ) (d : Grid) (o′ : List 
   pub part-solid : isSolid ≡ true → (r : D.Region) (u : D.State) → r .long ≡ 64
       → D.partOf (readTape s .tape) (gridIn d isSolid) r u ≤ D.solidBound * length (readTape s .tape .clauses)
 
-first-zero : (a b : ℕ) → firstOf a b ≡ 0 → a ≡ 0
-first-zero zero b e = refl
-first-zero (suc a) b e = e
-
 pub by-tiles : (t : Bool) (s : List ℕ) (d : Grid) (o o′ w w′ : List ℕ) (r : Answer) → TilesSay t s d o o′ w w′ r
     → r .number ≡ 0 → DrawnByTiles t s d o′ (r .count)
 by-tiles t s d o o′ w w′ r f e =
@@ -40,7 +35,7 @@ by-tiles t s d o o′ w w′ r f e =
     let x = tileFault t s g (length o) (length w) in
     let z : x ≡ 0 = sym (f .answer .number) ∙ e in
     let k = eq-eqb x 0 z in
-    let c = clear t s g (length o) (first-zero (drawFault t s g (length o)) _ z) in
+    let c = clear t s g (length o) (first-zero (drawFault t s g (length o)) _ z .0) in
     let tiles = demand-3 s (c .read) in
     let kind = accepted d t (c .grid) .kind in
     record {

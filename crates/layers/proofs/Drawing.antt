@@ -8,10 +8,11 @@ use lib.Dec.{eqb, leb}
 use lib.ListN.{length, take}
 use lib.Seq.{length-take-le}
 use borrow.Author.Tests.{eqb-true, ne-eqb, eq-eqb}
-use Rattle.rules.specs.Values.{pick, firstOf, when}
+use Rattle.rules.specs.Values.{when}
 use Rattle.rules.specs.Tapes.{readTape, clauseLimit}
 use Rattle.rules.specs.Drawings as D
 use Rattle.rules.specs.Pictures.{picture, pictureSize}
+use Rattle.rules.proofs.Tests.{first-zero}
 use Rattle.rules.proofs.Accepted.{Accepted, accepted-tape}
 use Rattle.code.specs.Words.{tapeIn, Runnable}
 use Rattle.code.specs.Runs.{Fit}
@@ -24,11 +25,6 @@ use Rattle.layers.specs.declared.Answer.{Answer}
 use Rattle.layers.specs.declared.refusal.Prepared.{Prepared}
 use Rattle.layers.specs.Says.{drawFault, Prepares, FullSays}
 use Rattle.layers.proofs.Refusals.{placeless}
-
--- A first number that is 0: both are.
-first-zero : (a b : ℕ) → firstOf a b ≡ 0 → (a ≡ 0) × (b ≡ 0)
-first-zero zero b e = (refl, e)
-first-zero (suc a) b e = absurd (omega arith)
 
 when-zero : (t : Bool) (n : ℕ) → when (not t) (suc n) ≡ 0 → t ≡ true
 when-zero true n e = refl

@@ -5,7 +5,7 @@ use Prim.Native.Nat.{ℕ, suc, _+_, _*_}
 use lib.Dec.{eqb, ltb, leb}
 use lib.ListN.{length, getD, drop}
 use Rattle.rules.specs.Values.{pick, firstOf, when}
-use Rattle.rules.specs.Tapes.{Tape, clauseLimit, readTape, word, signed4}
+use Rattle.rules.specs.Tapes.{clauseLimit, readTape, word, signed4}
 use Rattle.rules.specs.Drawings.{Grid, solid, gridFault, walked}
 use Rattle.rules.specs.Pictures.{digitsFrom, picture, bitmapFile, heightFile}
 
