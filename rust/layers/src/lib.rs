@@ -48,3 +48,8 @@ pub use heightmap::Heightmap;
 pub use raw::Grid;
 pub use refusal::Refusal;
 pub use tape::{MAX_CLAUSES, MAX_SLOTS, Tape};
+
+/// The README's example runs with the other examples.
+#[cfg(doctest)]
+#[doc = include_str!("../../../README.md")]
+struct Readme;
