@@ -1,1 +1,106 @@
-//! Example parts, built of simple shapes.
+//! Example parts, built of simple shapes (`shape`) and compiled to tapes with few slots (`slots`).
+
+pub mod examples;
+pub mod formula;
+pub mod picture;
+pub mod png;
+pub mod shape;
+pub mod slots;
+
+use formula::{fixed, Formula};
+use layers::Grid;
+use shape::Shape;
+
+/// A part to draw: its tape, and the grids that show it.
+pub struct Part {
+    pub name: &'static str,
+    pub tape: Vec<u8>,
+    /// 512 by 512, at a z that shows the inside.
+    pub flat: Grid,
+    /// 128 by 128 by 128, of the whole part.
+    pub solid: Grid,
+}
+
+/// The part as it is designed: its shape, the box that holds it, and the z of its flat picture.
+pub struct Design {
+    pub name: &'static str,
+    pub shape: Shape,
+    pub low: [f64; 3],
+    pub high: [f64; 3],
+    pub z: f64,
+}
+
+impl Design {
+    pub fn part(&self) -> Part {
+        let mut formula = Formula::default();
+        let result = self.shape.formula(&mut formula);
+        let list = slots::compile(&formula, result).unwrap_or_else(|e| panic!("{}: {e:?}", self.name));
+        let flat = Grid { depth: 0, zfirst: fixed(self.z), zstep: 0, ..self.grid(512) };
+        Part { name: self.name, tape: list.pack(), flat, solid: self.grid(128) }
+    }
+
+    /// The box, cut into n samples along each axis.
+    fn grid(&self, n: u32) -> Grid {
+        let low = self.low.map(fixed);
+        let sizes = [0, 1, 2].map(|axis| fixed(self.high[axis] - self.low[axis]));
+        cut(low, sizes, n)
+    }
+}
+
+/// A grid of n samples along each axis, each in the middle of its share of the box.
+fn cut(low: [i32; 3], sizes: [i32; 3], n: u32) -> Grid {
+    let [xstep, ystep, zstep] = sizes.map(|size| size / n as i32);
+    Grid {
+        width: n,
+        height: n,
+        depth: n,
+        xfirst: low[0] + xstep / 2,
+        yfirst: low[1] + ystep / 2,
+        zfirst: low[2] + zstep / 2,
+        xstep,
+        ystep,
+        zstep,
+    }
+}
+
+impl Part {
+    pub fn slots(&self) -> usize {
+        self.tape[3] as usize
+    }
+
+    pub fn clauses(&self) -> usize {
+        (self.tape.len() - 8) / 10
+    }
+
+    /// The program's inputs that draw this part, with their file names.
+    pub fn inputs(&self) -> [(String, Vec<u8>); 2] {
+        [("flat", self.flat), ("solid", self.solid)]
+            .map(|(kind, grid)| (format!("{}-{kind}.part", self.name), input(grid, &self.tape)))
+    }
+
+    /// The solid grid's box, cut into n samples along each axis (n up to 512).
+    pub fn solid_at(&self, n: u32) -> Grid {
+        let g = self.solid;
+        let low = [g.xfirst - g.xstep / 2, g.yfirst - g.ystep / 2, g.zfirst - g.zstep / 2];
+        let sizes = [g.xstep * g.width as i32, g.ystep * g.height as i32, g.zstep * g.depth as i32];
+        cut(low, sizes, n)
+    }
+}
+
+/// A program's input: the grid record, then the tape.
+fn input(grid: Grid, tape: &[u8]) -> Vec<u8> {
+    let mut bytes = vec![0x47, 0x52];
+    for size in [grid.width, grid.height, grid.depth] {
+        bytes.extend((size as u16).to_le_bytes());
+    }
+    for number in [grid.xfirst, grid.yfirst, grid.zfirst, grid.xstep, grid.ystep, grid.zstep] {
+        bytes.extend(number.to_le_bytes());
+    }
+    bytes.extend(tape);
+    bytes
+}
+
+/// Every example part.
+pub fn all() -> Vec<Part> {
+    examples::designs().iter().map(Design::part).collect()
+}

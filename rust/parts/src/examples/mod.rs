@@ -1,0 +1,10 @@
+//! The example parts. y runs downward in a picture, and a solid is seen from above, from the side of great z.
+
+mod bracket;
+mod gear;
+
+use crate::Design;
+
+pub fn designs() -> Vec<Design> {
+    vec![bracket::bracket(), gear::gear()]
+}
