@@ -40,6 +40,8 @@ struct Wanted {
     outside: bool,
     /// The radius of edges where faces meet; 0 for sharp ones.
     edge: f64,
+    /// Whether the edges are round as seen from outside: those of a rounded hole, of which the outside is wanted.
+    turned: bool,
     /// How far the surface is moved outward.
     grown: f64,
 }
@@ -131,7 +133,7 @@ impl Shape {
         union(places.iter().map(|&place| self.clone().translate(place)))
     }
 
-    /// The same with round outer edges, where the faces of an intersection or a difference meet. No face moves.
+    /// The same with round outer edges, where the faces of intersections and differences in it meet. No face moves.
     pub fn rounded(self, radius: f64) -> Self {
         Shape::new(Kind::Rounded(self, radius))
     }
@@ -143,7 +145,7 @@ impl Shape {
 
     /// Adds the formula of this shape.
     pub fn formula(&self, f: &mut Formula) -> Id {
-        self.build(f, Wanted { at: [0.0; 3], outside: false, edge: 0.0, grown: 0.0 })
+        self.build(f, Wanted { at: [0.0; 3], outside: false, edge: 0.0, turned: false, grown: 0.0 })
     }
 
     fn build(&self, f: &mut Formula, w: Wanted) -> Id {
@@ -154,13 +156,13 @@ impl Shape {
                 surface(f, distance, *limit, w)
             }
             Kind::Shell(shape, limit) => {
-                let value = shape.build(f, Wanted { outside: false, grown: 0.0, ..w });
+                let value = shape.build(f, Wanted { outside: false, turned: false, grown: 0.0, ..w });
                 let distance = f.unary(Op::Absolute, value);
                 surface(f, distance, *limit, w)
             }
             Kind::Outside(shape) => shape.build(f, Wanted { outside: !w.outside, ..w }),
             Kind::Moved(shape, by) => shape.build(f, moved(w, *by)),
-            Kind::Rounded(shape, edge) => shape.build(f, Wanted { edge: *edge, ..w }),
+            Kind::Rounded(shape, edge) => shape.build(f, Wanted { edge: *edge, turned: w.outside, ..w }),
             Kind::Union(_) => self.combined(f, w.outside, w),
             Kind::Meet(_) => self.combined(f, !w.outside, w),
         }
@@ -170,7 +172,7 @@ impl Shape {
     fn combined(&self, f: &mut Formula, meet: bool, w: Wanted) -> Id {
         let mut terms = Vec::new();
         self.terms(meet, w, &mut terms);
-        if meet && w.edge > 0.0 && terms.len() > 1 {
+        if meet != w.turned && w.edge > 0.0 && terms.len() > 1 {
             return rounded_formula(f, &terms, w);
         }
         let values: Vec<Id> = terms.iter().map(|(shape, w)| shape.build(f, *w)).collect();
@@ -269,10 +271,11 @@ fn rounded_formula(f: &mut Formula, terms: &[(Shape, Wanted)], w: Wanted) -> Id 
     let beyond: Vec<Id> = terms
         .iter()
         .map(|(shape, term)| {
-            let value = shape.build(f, Wanted { grown: -w.edge, ..*term });
+            let outside = term.outside != w.turned;
+            let value = shape.build(f, Wanted { outside, turned: false, grown: -w.edge, ..*term });
             f.binary(Op::Maximum, value, zero)
         })
         .collect();
     let distance = root_of_squares(f, beyond);
-    f.less(distance, fixed(w.edge + w.grown))
+    surface(f, distance, w.edge, Wanted { outside: w.turned, ..w })
 }

@@ -13,8 +13,7 @@ const WIDTH: f64 = 14.0;
 const PRESSURE: f64 = 20.0 * PI / 180.0;
 
 pub fn gear() -> Design {
-    let teeth = union((0..TEETH).map(tooth)).within(rod(Z, TIP));
-    let wheel = teeth.and(rod(Z, FOOT)).within(slab(Z, 0.0, WIDTH));
+    let wheel = teeth().within(rod(Z, TIP)).and(rod(Z, FOOT)).within(slab(Z, 0.0, WIDTH));
     let hub = cylinder(Z, 11.0, -2.0, WIDTH + 2.0).rounded(1.0);
     let shape = wheel.without(recesses()).without(holes()).and(hub).without(bore());
     Design { name: "gear", shape, low: [-40.0, -40.0, -4.0], high: [40.0, 40.0, 20.0], z: WIDTH / 2.0 }
@@ -26,12 +25,21 @@ fn polar(angle: f64, out: f64, aside: f64) -> [f64; 3] {
     [cos * out - sin * aside, sin * out + cos * aside, 0.0]
 }
 
+/// The teeth, mirror images next to each other: these share numbers, which then keep their slots for a short time.
+fn teeth() -> Shape {
+    let mut order: Vec<usize> = (0..TEETH).collect();
+    order.sort_by_key(|i| (i % (TEETH / 2)).min(TEETH / 2 - i % (TEETH / 2)));
+    union(order.into_iter().map(tooth))
+}
+
 /// Each flank is the arc that touches the involute at the pitch circle, so a tooth is the overlap of two discs.
 fn tooth(index: usize) -> Shape {
     let angle = 2.0 * PI * index as f64 / TEETH as f64;
+    let half = PI / 2.0 / TEETH as f64;
     let radius = PITCH * PRESSURE.sin();
-    let out = PITCH - radius * PRESSURE.sin();
-    let aside = radius * PRESSURE.cos() - PI * MODULE / 4.0 + 0.1;
+    // The normal where the flank crosses the pitch circle, as seen from the middle of the tooth.
+    let (sin, cos) = (PRESSURE - half).sin_cos();
+    let (out, aside) = (PITCH * half.cos() - radius * sin, radius * cos - PITCH * half.sin());
     let flank = |side: f64| rod(Z, radius).translate(polar(angle, out, side * aside));
     flank(-1.0).within(flank(1.0))
 }

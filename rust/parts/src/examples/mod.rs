@@ -2,9 +2,12 @@
 
 mod bracket;
 mod gear;
+mod housing;
+mod lattice;
+mod lettering;
 
 use crate::Design;
 
 pub fn designs() -> Vec<Design> {
-    vec![bracket::bracket(), gear::gear()]
+    vec![bracket::bracket(), gear::gear(), housing::housing(), lettering::lettering(), lattice::lattice()]
 }
