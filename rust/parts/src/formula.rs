@@ -95,12 +95,9 @@ impl Formula {
         self.nodes[id]
     }
 
-    pub fn len(&self) -> usize {
+    /// How many nodes there are.
+    pub fn count(&self) -> usize {
         self.nodes.len()
-    }
-
-    pub fn is_empty(&self) -> bool {
-        self.nodes.is_empty()
     }
 
     /// The node, which is made only if there is none equal to it.

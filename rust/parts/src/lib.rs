@@ -10,6 +10,7 @@ pub mod slots;
 use formula::{fixed, Formula};
 use layers::Grid;
 use shape::Shape;
+use slots::{compile, List, TooBig, SLOT_LIMIT};
 
 /// A part to draw: its tape, and the grids that show it.
 pub struct Part {
@@ -32,11 +33,16 @@ pub struct Design {
 
 impl Design {
     pub fn part(&self) -> Part {
-        let mut formula = Formula::default();
-        let result = self.shape.formula(&mut formula);
-        let list = slots::compile(&formula, result).unwrap_or_else(|e| panic!("{}: {e:?}", self.name));
+        let list = self.compiled(SLOT_LIMIT).unwrap_or_else(|e| panic!("{}: {e:?}", self.name));
         let flat = Grid { depth: 0, zfirst: fixed(self.z), zstep: 0, ..self.grid(512) };
         Part { name: self.name, tape: list.pack(), flat, solid: self.grid(128) }
+    }
+
+    /// The part's list within a number of slots.
+    pub fn compiled(&self, slots: usize) -> Result<List, TooBig> {
+        let mut formula = Formula::default();
+        let result = self.shape.formula(&mut formula);
+        compile(&formula, result, slots)
     }
 
     /// The box, cut into n samples along each axis.

@@ -28,30 +28,38 @@ pub fn flat_png(part: &Part) -> Vec<u8> {
     png(part.flat.width, part.flat.height, 1, &rows)
 }
 
-/// The solid's box in finer samples, seen from above and lit from the upper left.
+/// The side of the solid picture's file; the program's own limit for a solid is 128.
+const FINE: u32 = 512;
+
+/// The solid's box in finer samples, seen from above and lit from the upper left, nothing white.
 pub fn solid_png(part: &Part) -> Vec<u8> {
-    let grid = part.solid_at(384);
+    let grid = part.solid_at(FINE);
     let (heights, _) = solid(part, grid);
     let shades: Vec<u8> = (0..heights.len()).map(|i| shade(&heights, i, grid)).collect();
     png(grid.width, grid.height, 8, &shades)
 }
 
-const BACKGROUND: u8 = 255;
-
 /// A pixel's grey: how squarely its surface faces the light, darker where deep down.
 fn shade(heights: &[u16], index: usize, grid: Grid) -> u8 {
     if heights[index] == 0 {
-        return BACKGROUND;
+        return 255;
     }
-    let (width, height) = (grid.width as usize, grid.height as usize);
+    let [east, south] = slope(heights, index, grid);
+    let facing = (0.45 * east + 0.55 * south + 1.0) / (east * east + south * south + 1.0).sqrt();
+    let raised = heights[index] as f64 / grid.depth as f64;
+    let light = 0.12 + 0.62 * facing.max(0.0) * (0.55 + 0.45 * raised);
+    // Few shades: the file is smaller, and the steps of the heights show less.
+    (light.min(1.0) * 50.0).round() as u8 * 5
+}
+
+/// How far the heights rise to the right and downward in the picture, per unit of length, over two pixels each way.
+fn slope(heights: &[u16], index: usize, grid: Grid) -> [f64; 2] {
+    let width = grid.width as usize;
     let (column, row) = (index % width, index / width);
     let z = |column: usize, row: usize| heights[row * width + column] as f64 * grid.zstep as f64;
-    let (left, right) = (column.saturating_sub(1), (column + 1).min(width - 1));
-    let (up, down) = (row.saturating_sub(1), (row + 1).min(height - 1));
-    let slope_x = (z(right, row) - z(left, row)) / (2.0 * grid.xstep as f64);
-    let slope_y = (z(column, down) - z(column, up)) / (2.0 * grid.ystep as f64);
-    let facing = (0.45 * slope_x + 0.55 * slope_y + 1.0) / (slope_x * slope_x + slope_y * slope_y + 1.0).sqrt();
-    let depth = heights[index] as f64 / grid.depth as f64;
-    let light = 0.12 + 0.62 * facing.max(0.0) * (0.55 + 0.45 * depth);
-    (light.min(1.0) * 63.0).round() as u8 * 4
+    let (left, right) = (column.saturating_sub(2), (column + 2).min(width - 1));
+    let (up, down) = (row.saturating_sub(2), (row + 2).min(grid.height as usize - 1));
+    let east = (z(right, row) - z(left, row)) / (4.0 * grid.xstep as f64);
+    let south = (z(column, down) - z(column, up)) / (4.0 * grid.ystep as f64);
+    [east, south]
 }

@@ -2,7 +2,8 @@
 //!
 //! Of two operands the one that needs more slots comes first (the order of Sethi and Ullman). A slot is free again after
 //! the last clause that reads it. Where slots run out, the constant or axis that is read again last gives up its slot
-//! and is loaded once more when needed. Fewest clauses come first, then fewest slots.
+//! and is loaded once more when needed. Each clause costs time in every region that it is run over, each slot below the
+//! limit nothing, so fewest clauses come first, then fewest slots.
 
 use crate::formula::{Formula, Id, Node};
 use std::collections::VecDeque;
@@ -38,22 +39,22 @@ impl List {
     }
 }
 
-/// The list of a node's formula, with the fewest clauses and among these the fewest slots.
-pub fn compile(formula: &Formula, result: Id) -> Result<List, TooBig> {
+/// The list of a node's formula within a number of slots, with the fewest clauses and among these the fewest slots.
+pub fn compile(formula: &Formula, result: Id, slots: usize) -> Result<List, TooBig> {
     let order = order(formula, result);
-    let best = allocate(formula, &order, SLOT_LIMIT).ok_or(TooBig::Slots)?;
+    let best = allocate(formula, &order, slots.min(SLOT_LIMIT)).ok_or(TooBig::Slots)?;
     if best.clauses() > CLAUSE_LIMIT {
         return Err(TooBig::Clauses(best.clauses()));
     }
-    let fewer = (1..best.slots).filter_map(|slots| allocate(formula, &order, slots));
-    Ok(fewer.into_iter().find(|list| list.clauses() == best.clauses()).unwrap_or(best))
+    let mut fewer = (1..best.slots).filter_map(|slots| allocate(formula, &order, slots));
+    Ok(fewer.find(|list| list.clauses() == best.clauses()).unwrap_or(best))
 }
 
 /// The nodes to compute, each after what it reads. Constants and axes are left out, but for the result.
 fn order(formula: &Formula, result: Id) -> Vec<Id> {
     let needs = needs(formula);
     let mut order = Vec::new();
-    let mut seen = vec![false; formula.len()];
+    let mut seen = vec![false; formula.count()];
     visit(formula, &needs, result, &mut seen, &mut order);
     if order.is_empty() {
         order.push(result);
@@ -77,8 +78,8 @@ fn visit(formula: &Formula, needs: &[usize], id: Id, seen: &mut [bool], order: &
 
 /// How many slots each node needs if nothing is shared.
 fn needs(formula: &Formula) -> Vec<usize> {
-    let mut needs: Vec<usize> = Vec::with_capacity(formula.len());
-    for id in 0..formula.len() {
+    let mut needs: Vec<usize> = Vec::with_capacity(formula.count());
+    for id in 0..formula.count() {
         let need = match formula.node(id).reads()[..] {
             [] => 1,
             [a] => needs[a],
@@ -117,13 +118,13 @@ struct Desk<'a> {
 
 impl<'a> Desk<'a> {
     fn new(formula: &'a Formula, order: &[Id], slots: usize) -> Self {
-        let mut readers = vec![VecDeque::new(); formula.len()];
+        let mut readers = vec![VecDeque::new(); formula.count()];
         for (place, &id) in order.iter().enumerate() {
             for read in formula.node(id).reads() {
                 readers[read].push_back(place);
             }
         }
-        let (holds, slot_of) = (vec![None; slots], vec![None; formula.len()]);
+        let (holds, slot_of) = (vec![None; slots], vec![None; formula.count()]);
         Desk { formula, holds, slot_of, readers, used: 0, numbers: Vec::new() }
     }
 

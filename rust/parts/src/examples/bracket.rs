@@ -15,7 +15,7 @@ pub fn bracket() -> Design {
     let plates = union([base(), upright(), fillet()]);
     let ribs = rib().at_each(&[[-26.0, 0.0, 0.0], [0.0; 3], [26.0, 0.0, 0.0]]);
     let shape = plates.and(ribs).without(base_holes()).without(upright_holes());
-    Design { name: "bracket", shape, low: [-32.0, -32.0, 0.0], high: [32.0, 32.0, 48.0], z: 20.5 }
+    Design { name: "bracket", shape, low: [-32.0, -32.0, 0.0], high: [32.0, 32.0, 48.0], z: 24.0 }
 }
 
 fn base() -> Shape {

@@ -14,7 +14,7 @@ pub fn lattice() -> Design {
     let struts = union(AXES.into_iter().flat_map(struts_across)).within(cube(HALF + STRUT));
     let base = block([-HALF - 4.0, -HALF - 4.0, -HALF - 4.0], [HALF + 4.0, HALF + 4.0, -HALF]).rounded(1.5);
     let shape = union([struts, frame(), base]);
-    Design { name: "lattice", shape, low: [-32.0; 3], high: [32.0; 3], z: 0.0 }
+    Design { name: "lattice", shape, low: [-32.0; 3], high: [32.0; 3], z: 1.0 }
 }
 
 /// Each axis with the two others.

@@ -3,12 +3,12 @@
 use crate::shape::*;
 use crate::Design;
 
-const LINES: [&str; 5] = ["LEZANTSIRO", "LAYER CORE", "PARTS FROM", "FORMULAS", "1024 STEPS"];
+const LINES: [&str; 5] = ["LEZANTSIRO", "LAYER CORE", "PARTS AS", "FORMULAS", "NO 1024"];
 
 /// Letters are drawn on a grid 4 wide and 6 high, y downward; this is its mesh.
 const MESH: f64 = 1.4;
-/// From letter to letter, and from line to line.
-const PITCH: f64 = 8.4;
+/// From letter to letter, in meshes, and from line to line.
+const GAP: f64 = 2.0;
 const LEADING: f64 = 15.0;
 /// Half the width of a stroke, in meshes.
 const PEN: f64 = 0.48;
@@ -32,15 +32,31 @@ fn outline(half: f64) -> Shape {
 
 /// All lines, each in the middle.
 fn text() -> Shape {
+    let y = |row: usize| LEADING * (row as f64 - (LINES.len() - 1) as f64 / 2.0);
+    let lines = LINES.into_iter().enumerate();
+    union(lines.map(|(row, line)| line_of(line).translate([0.0, y(row), 0.0])))
+}
+
+fn line_of(line: &str) -> Shape {
+    let length: f64 = line.chars().map(|letter| width(letter) + GAP).sum();
     let mut letters = Vec::new();
-    for (row, line) in LINES.into_iter().enumerate() {
-        let y = LEADING * (row as f64 - (LINES.len() - 1) as f64 / 2.0);
-        for (column, letter) in line.chars().enumerate().filter(|(_, letter)| *letter != ' ') {
-            let x = PITCH * (column as f64 - (line.len() - 1) as f64 / 2.0);
-            letters.push(union(strokes(letter)).translate([x, y, 0.0]));
-        }
+    let mut x = -length / 2.0;
+    for letter in line.chars() {
+        let middle = x + (width(letter) + GAP) / 2.0;
+        letters.extend(strokes(letter).into_iter().map(|stroke| stroke.translate([middle * MESH, 0.0, 0.0])));
+        x += width(letter) + GAP;
     }
     union(letters)
+}
+
+fn width(letter: char) -> f64 {
+    match letter {
+        'I' => 0.0,
+        ' ' => 1.0,
+        '1' => 1.8,
+        'L' | 'E' | 'F' => 3.6,
+        _ => 4.0,
+    }
 }
 
 /// A place along an axis of the letter's grid, from the letter's middle.
@@ -100,14 +116,15 @@ fn bowl() -> Shape {
 
 fn strokes(letter: char) -> Vec<Shape> {
     match letter {
-        'A' => vec![slant((0.0, 6.0), (2.0, 0.0)), slant((2.0, 0.0), (4.0, 6.0)), bar(4.0, 1.0, 3.0)],
+        ' ' => vec![],
+        'A' => vec![slant((0.0, 6.0), (1.8, 0.0)), slant((2.2, 0.0), (4.0, 6.0)), bar(4.0, 1.0, 3.0)],
         'C' => vec![loop_of(0.0, 0.0, 4.0, 6.0).without(right_of(2.0).within(rows(2.0, 4.0)))],
         'E' => vec![stem(0.0), bar(0.0, 0.0, 3.6), bar(3.0, 0.0, 3.0), bar(6.0, 0.0, 3.6)],
         'F' => vec![stem(0.0), bar(0.0, 0.0, 3.6), bar(3.0, 0.0, 3.0)],
         'I' => vec![stem(2.0)],
         'L' => vec![stem(0.0), bar(6.0, 0.0, 3.6)],
-        'M' => vec![stem(0.0), slant((0.0, 0.0), (2.0, 4.0)), slant((2.0, 4.0), (4.0, 0.0)), stem(4.0)],
-        'N' => vec![stem(0.0), slant((0.0, 0.0), (4.0, 6.0)), stem(4.0)],
+        'M' => vec![stem(0.0), slant((0.3, 0.0), (2.0, 4.0)), slant((2.0, 4.0), (3.7, 0.0)), stem(4.0)],
+        'N' => vec![stem(0.0), slant((0.4, 0.0), (3.6, 6.0)), stem(4.0)],
         'O' | '0' => vec![loop_of(0.0, 0.0, 4.0, 6.0)],
         'P' => vec![stem(0.0), bowl()],
         'R' => vec![stem(0.0), bowl(), slant((2.0, 3.2), (4.0, 6.0))],
@@ -117,15 +134,15 @@ fn strokes(letter: char) -> Vec<Shape> {
         ],
         'T' => vec![stem(2.0), bar(0.0, 0.0, 4.0)],
         'U' => vec![loop_of(0.0, -3.0, 4.0, 6.0).within(rows(0.0, 9.0))],
-        'Y' => vec![slant((0.0, 0.0), (2.0, 3.0)), slant((2.0, 3.0), (4.0, 0.0)), columns(2.0, 2.0).within(rows(3.0, 6.0))],
-        'Z' => vec![bar(0.0, 0.0, 4.0), slant((4.0, 0.0), (0.0, 6.0)), bar(6.0, 0.0, 4.0)],
+        'Y' => vec![slant((0.0, 0.0), (1.5, 2.6)), slant((2.5, 2.6), (4.0, 0.0)), columns(2.0, 2.0).within(rows(2.6, 6.0))],
+        'Z' => vec![bar(0.0, 0.0, 4.0), slant((3.6, 0.0), (0.4, 6.0)), bar(6.0, 0.0, 4.0)],
         '1' => vec![stem(2.0), slant((0.8, 1.4), (2.0, 0.0))],
         '2' => vec![
             loop_of(0.0, 0.0, 4.0, 3.4).within(right_of(2.0).and(plane(Y, down(1.4)))),
-            slant((2.0, 3.4), (0.0, 6.0)),
+            slant((2.4, 3.4), (0.4, 6.0)),
             bar(6.0, 0.0, 4.0),
         ],
-        '4' => vec![slant((3.0, 0.0), (0.0, 4.0)), bar(4.0, 0.0, 4.0), stem(3.0)],
+        '4' => vec![slant((2.7, 0.0), (0.2, 4.0)), bar(4.0, 0.0, 4.0), stem(3.0)],
         _ => panic!("no letter {letter}"),
     }
 }

@@ -1,0 +1,88 @@
+//! The example parts are within the limits, and the files of the repository are theirs.
+
+use parts::{all, picture, Part};
+use std::path::{Path, PathBuf};
+
+fn root() -> PathBuf {
+    Path::new(env!("CARGO_MANIFEST_DIR")).join("../..")
+}
+
+fn same(path: PathBuf, bytes: &[u8]) {
+    let found = std::fs::read(&path).unwrap_or_else(|e| panic!("{}: {e}", path.display()));
+    assert!(found == bytes, "{} is stale: run the program 'parts' in the repository's root", path.display());
+}
+
+#[test]
+fn inputs_are_as_built() {
+    for (name, bytes) in all().iter().flat_map(Part::inputs) {
+        same(root().join("examples").join(name), &bytes);
+    }
+}
+
+#[test]
+fn pictures_are_as_drawn() {
+    for part in all() {
+        let (flat, solid) = (picture::flat_png(&part), picture::solid_png(&part));
+        assert!(flat.len() < 60 << 10 && solid.len() < 60 << 10);
+        same(root().join(format!("docs/pictures/{}-flat.png", part.name)), &flat);
+        same(root().join(format!("docs/pictures/{}-solid.png", part.name)), &solid);
+    }
+}
+
+#[test]
+fn no_other_files_are_there() {
+    let inputs = std::fs::read_dir(root().join("examples")).unwrap().count();
+    let pictures = std::fs::read_dir(root().join("docs/pictures")).unwrap().count();
+    assert_eq!((inputs, pictures), (2 * all().len() + 1, 2 * all().len()));
+}
+
+#[test]
+fn lettering_is_near_the_limit() {
+    let lettering = all().into_iter().find(|part| part.name == "lettering").unwrap();
+    assert!((950..=1024).contains(&lettering.clauses()));
+}
+
+/// The core's material, bit by bit, is where the formula is below 0.
+#[test]
+fn the_core_sees_the_formula() {
+    for design in parts::examples::designs() {
+        let part = design.part();
+        let mut formula = parts::formula::Formula::default();
+        let result = design.shape.formula(&mut formula);
+        let (rows, _) = picture::flat(&part, part.flat);
+        for (column, row) in (0..512).step_by(13).flat_map(|column| (0..512).step_by(13).map(move |row| (column, row))) {
+            let place = |first: i32, step: i32, index: usize| first as i64 + index as i64 * step as i64;
+            let (x, y) = (place(part.flat.xfirst, part.flat.xstep, column), place(part.flat.yfirst, part.flat.ystep, row));
+            let bit = rows[row * 64 + column / 8] >> (7 - column % 8) & 1;
+            let value = formula.value_at(result, [x, y, part.flat.zfirst as i64]);
+            assert_eq!(bit == 1, value < 0, "{} at {column}, {row}", part.name);
+        }
+    }
+}
+
+/// No part touches a side or the top of its box.
+#[test]
+fn boxes_hold_their_parts() {
+    for part in all() {
+        let n = 128;
+        let (heights, _) = picture::solid(&part, part.solid);
+        for i in 0..n {
+            let border = [heights[i], heights[(n - 1) * n + i], heights[i * n], heights[i * n + n - 1]];
+            assert_eq!(border, [0; 4], "{} at {i}", part.name);
+        }
+        let top = *heights.iter().max().unwrap();
+        assert!(0 < top && (top as usize) < n, "{}: {top}", part.name);
+    }
+}
+
+/// The finer grid has its samples in the same box.
+#[test]
+fn finer_grids_cover_the_same_box() {
+    for part in all() {
+        let (coarse, fine) = (part.solid, part.solid_at(512));
+        assert_eq!(part.solid_at(128), coarse);
+        assert_eq!((fine.width, fine.height, fine.depth), (512, 512, 512));
+        assert_eq!([4 * fine.xstep, 4 * fine.ystep, 4 * fine.zstep], [coarse.xstep, coarse.ystep, coarse.zstep]);
+        assert_eq!(fine.xfirst - fine.xstep / 2, coarse.xfirst - coarse.xstep / 2);
+    }
+}
