@@ -100,8 +100,8 @@ impl Bits {
     }
 }
 
-/// Where a value falls among deflate's steps, of which each size has `many` (4 for lengths, 2 for distances): the step's
-/// index, its count of extra bits, and their value.
+/// Where a value falls among deflate's steps, of which each size has `many` (4 for lengths, 2 for distances): the
+/// step's index, its count of extra bits, and their value.
 fn step_of(value: usize, many: usize) -> (usize, usize, usize) {
     let size = (value / many).max(1).ilog2() as usize;
     let extra = if value < many { 0 } else { size };

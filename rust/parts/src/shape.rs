@@ -1,7 +1,7 @@
 //! Shapes, put together from simple ones, and the formula of each: below 0 exactly in its material.
 //!
 //! Lengths are millimetres. Squares are clamped at 32,768, so a part should stay within about 100 of the origin. Every
-//! formula is a distance, or near one: such a formula has tight bounds over a region, on which drawing by tiles depends.
+//! formula is a distance, or near one: such a formula has tight bounds over a region, on which tiles depend.
 
 use crate::formula::{fixed, Formula, Id, Op};
 use std::rc::Rc;

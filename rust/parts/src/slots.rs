@@ -1,9 +1,9 @@
 //! From a formula to a tape: the order of clauses, and a slot for each value.
 //!
-//! Of two operands the one that needs more slots comes first (the order of Sethi and Ullman). A slot is free again after
-//! the last clause that reads it. Where slots run out, the constant or axis that is read again last gives up its slot
-//! and is loaded once more when needed. Each clause costs time in every region that it is run over, each slot below the
-//! limit nothing, so fewest clauses come first, then fewest slots.
+//! Of two operands the one that needs more slots comes first (the order of Sethi and Ullman). A slot is free again
+//! after the last clause that reads it. Where slots run out, the constant or axis that is read again last gives up its
+//! slot and is loaded once more when needed. Each clause costs time in every region that it is run over, each slot
+//! below the limit nothing, so fewest clauses come first, then fewest slots.
 
 use crate::formula::{Formula, Id, Node};
 use std::collections::VecDeque;

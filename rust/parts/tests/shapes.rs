@@ -93,7 +93,7 @@ fn round_edges_move_no_face() {
 fn equal_subformulas_are_one() {
     let mut formula = Formula::default();
     rod(Z, 2.0).at_each(&[[5.0, 1.0, 0.0], [-5.0, 1.0, 0.0]]).formula(&mut formula);
-    // x, 5, x − 5, its square; y, 1, y − 1, its square; sum, root, 2, value. Then x + 5 and its square, sum, root, value,
-    // and the minimum.
+    // x, 5, x − 5, its square; y, 1, y − 1, its square; sum, root, 2, value. Then x + 5 and its square, sum, root,
+    // value, and the minimum.
     assert_eq!(formula.count(), 18);
 }

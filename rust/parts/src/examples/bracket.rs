@@ -1,54 +1,57 @@
-//! An angle bracket: a base and an upright plate, three ribs between them, two holes in each plate.
+//! An angle bracket: two plates at right angles, three ribs between them, two holes in each plate. It stands on its edge,
+//! as it would be printed, so that both plates are seen from above.
 
 use crate::shape::*;
 use crate::Design;
+use std::f64::consts::FRAC_1_SQRT_2;
 
-/// The faces of the upright.
-const FRONT: f64 = 20.0;
-const BACK: f64 = 26.0;
-/// The top of the base.
-const TOP: f64 = 6.0;
-
-const UP: Direction = [0.0, 0.0, -1.0];
+/// The way along each plate from the edge, which is also the way through the other plate.
+const ALONG: [Direction; 2] = [[0.0, FRAC_1_SQRT_2, FRAC_1_SQRT_2], [0.0, -FRAC_1_SQRT_2, FRAC_1_SQRT_2]];
+const LENGTHS: [f64; 2] = [50.0, 44.0];
+const THICK: f64 = 6.0;
 
 pub fn bracket() -> Design {
-    let plates = union([base(), upright(), fillet()]);
     let ribs = rib().at_each(&[[-26.0, 0.0, 0.0], [0.0; 3], [26.0, 0.0, 0.0]]);
-    let shape = plates.and(ribs).without(base_holes()).without(upright_holes());
-    Design { name: "bracket", shape, low: [-32.0, -32.0, 0.0], high: [32.0, 32.0, 48.0], z: 24.0 }
+    let solid = union([plate(0), plate(1), fillet(), ribs]);
+    let shape = solid.without(holes(0)).without(holes(1));
+    Design { name: "bracket", shape, low: [-36.0, -34.0, 0.0], high: [36.0, 38.0, 40.0], z: 26.0 }
 }
 
-fn base() -> Shape {
-    let outline = intersection([slab(X, -30.0, 30.0), slab(Y, -28.0, 60.0)]).rounded(7.0);
-    intersection([outline, plane(Y, BACK), slab(Z, 0.0, TOP)]).rounded(1.0)
+/// A place by its distances from the outer faces of the two plates.
+fn place(x: f64, first: f64, second: f64) -> [f64; 3] {
+    [0, 1, 2].map(|i| x * X[i] + first * ALONG[0][i] + second * ALONG[1][i])
 }
 
-fn upright() -> Shape {
-    let outline = intersection([slab(X, -30.0, 30.0), slab(Z, -20.0, 46.0)]).rounded(9.0);
-    intersection([outline, plane(UP, 0.0), slab(Y, FRONT, BACK)]).rounded(1.0)
+/// All beyond a distance from the edge along a plate.
+fn beyond(which: usize, distance: f64) -> Shape {
+    plane(ALONG[which].map(|c| -c), -distance)
+}
+
+/// A plate with round corners and edges.
+fn plate(which: usize) -> Shape {
+    let length = LENGTHS[which];
+    let outline = intersection([slab(X, -30.0, 30.0), slab(ALONG[which], -length, length)]).rounded(8.0);
+    intersection([outline, beyond(which, 0.0), slab(ALONG[1 - which], 0.0, THICK)]).rounded(1.0)
 }
 
 /// The hollow round between the plates.
 fn fillet() -> Shape {
-    let corner = block([-29.0, FRONT - 4.0, TOP - 1.0], [29.0, FRONT + 1.0, TOP + 4.0]);
-    corner.without(rod(X, 4.0).translate([0.0, FRONT - 4.0, TOP + 4.0]))
+    let sides = ALONG.map(|along| slab(along, THICK - 1.0, THICK + 4.0));
+    let corner = intersection(sides).within(slab(X, -29.0, 29.0));
+    corner.without(rod(X, 4.0).translate(place(0.0, THICK + 4.0, THICK + 4.0)))
 }
 
-/// A triangle, from the upright's front down to the base, with a round hole to save weight.
+/// A triangle between the plates, with a round hole to save weight.
 fn rib() -> Shape {
-    let slope = plane(direction([0.0, -1.0, 1.0]), 14.0);
-    let corner = intersection([plane(Y, FRONT + 1.0), plane(UP, 1.0 - TOP), slab(X, -2.0, 2.0)]);
-    let hole = rod(X, 6.0).translate([0.0, FRONT - 10.0, TOP + 10.0]);
-    corner.within(slope).without(hole)
+    let corner = intersection([beyond(0, THICK - 1.0), beyond(1, THICK - 1.0), plane(Z, 28.0)]);
+    let hole = rod(X, 5.5).translate(place(0.0, THICK + 8.0, THICK + 8.0));
+    corner.within(slab(X, -2.0, 2.0)).without(hole)
 }
 
-/// Bolt holes down through the base, with room for the head.
-fn base_holes() -> Shape {
-    let hole = rod(Z, 3.3).and(cylinder(Z, 6.0, TOP - 2.0, TOP + 2.0));
-    hole.at_each(&[[-13.0, -10.0, 0.0], [13.0, -10.0, 0.0]])
-}
-
-fn upright_holes() -> Shape {
-    let hole = cylinder(Y, 4.5, FRONT - 1.0, BACK + 1.0);
-    hole.at_each(&[[-13.0, 0.0, 24.0], [13.0, 0.0, 24.0]])
+/// Bolt holes through a plate, with room for the heads inside.
+fn holes(which: usize) -> Shape {
+    let through = ALONG[1 - which];
+    let hole = cylinder(through, 3.3, -1.0, THICK + 1.0).and(cylinder(through, 5.5, THICK - 2.0, THICK + 1.0));
+    let at = |x: f64| if which == 0 { place(x, 32.0, 0.0) } else { place(x, 0.0, 32.0) };
+    hole.at_each(&[at(-13.0), at(13.0)])
 }
