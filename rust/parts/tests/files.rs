@@ -31,9 +31,11 @@ fn pictures_are_as_drawn() {
 
 #[test]
 fn no_other_files_are_there() {
-    let inputs = std::fs::read_dir(root().join("examples")).unwrap().count();
-    let pictures = std::fs::read_dir(root().join("docs/pictures")).unwrap().count();
-    assert_eq!((inputs, pictures), (2 * all().len() + 1, 2 * all().len()));
+    for (folder, extension) in [("examples", "part"), ("docs/pictures", "png")] {
+        let files = std::fs::read_dir(root().join(folder)).unwrap().map(|file| file.unwrap().path());
+        let count = files.filter(|file| file.extension().is_some_and(|found| found == extension)).count();
+        assert_eq!(count, 2 * all().len(), "{folder}");
+    }
 }
 
 #[test]
