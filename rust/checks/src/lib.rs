@@ -1,1 +1,12 @@
-//! What the tests share.
+//! What the tests share: random input from fixed seeds, comparisons of the core and the program with the slow drawing.
+
+pub mod compare;
+pub mod damage;
+pub mod drawing;
+pub mod files;
+pub mod grids;
+pub mod lists;
+pub mod packing;
+pub mod program;
+pub mod random;
+pub mod shapes;

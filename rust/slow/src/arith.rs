@@ -1,6 +1,6 @@
 //! Fixed-point arithmetic: a value is a whole number from −M to M, meaning v/65,536.
 
-use crate::fault::planted;
+use crate::fault::{planted, Fault};
 
 /// The greatest value.
 pub const M: i128 = 2_147_483_647;
@@ -13,7 +13,7 @@ pub fn clamp(v: i128) -> i128 {
 
 /// v/65,536 toward minus infinity.
 pub fn floor_unit(v: i128) -> i128 {
-    if planted("rounds-toward-zero") {
+    if planted(Fault::RoundsTowardZero) {
         return v / UNIT;
     }
     v.div_euclid(UNIT)
@@ -26,7 +26,7 @@ pub fn multiply(a: i128, b: i128) -> i128 {
 
 /// The sum; with the fault that clamps only at the end, not clamped.
 pub fn add(a: i128, b: i128) -> i128 {
-    if planted("clamps-at-the-end") {
+    if planted(Fault::ClampsAtTheEnd) {
         return a + b;
     }
     clamp(a + b)
@@ -34,7 +34,7 @@ pub fn add(a: i128, b: i128) -> i128 {
 
 /// The difference.
 pub fn subtract(a: i128, b: i128) -> i128 {
-    if planted("clamps-at-the-end") {
+    if planted(Fault::ClampsAtTheEnd) {
         return a - b;
     }
     clamp(a - b)

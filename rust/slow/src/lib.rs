@@ -6,5 +6,7 @@ pub mod call;
 pub mod draw;
 pub mod fault;
 pub mod netpbm;
+pub mod program;
+pub mod seen;
 pub mod tape;
 pub mod walk;

@@ -1,12 +1,15 @@
 //! Netpbm files.
 
+use crate::fault::{planted, Fault};
+
 /// The bitmap file of a flat picture; spare bits come out as 0.
 pub fn bitmap_file(width: u32, height: u32, picture: &[u8]) -> Vec<u8> {
     let mut file = format!("P4\n{width} {height}\n").into_bytes();
     for row in picture.chunks((width as usize).div_ceil(8)) {
         for (c, &byte) in row.iter().enumerate() {
             let here = (width as usize - 8 * c).min(8) as u32;
-            file.push(byte & !(((1u32 << (8 - here)) - 1) as u8));
+            let spare = if planted(Fault::SpareBitsKept) { 0 } else { (1u32 << (8 - here)) - 1 };
+            file.push(byte & !(spare as u8));
         }
     }
     file

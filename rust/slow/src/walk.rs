@@ -1,7 +1,8 @@
 //! The walk by tiles, with its count.
 
 use crate::draw::Grid;
-use crate::fault::planted;
+use crate::fault::{planted, Fault};
+use crate::seen::{note, Event};
 use crate::tape::Tape;
 
 const FLAT: [u32; 3] = [64, 8, 1];
@@ -10,10 +11,18 @@ const SOLID: [u32; 4] = [64, 16, 4, 1];
 /// The heights (0 and 1 in a flat picture) and the count.
 pub fn walk(tape: &Tape, grid: &Grid, solid: bool) -> (Vec<u16>, u64) {
     let pixels = grid.sizes[0] as usize * grid.sizes[1] as usize;
-    let mut walk = Walk { grid, solid, sides: if solid { &SOLID } else { &FLAT }, heights: vec![0; pixels], count: 0, filled: false };
+    let mut walk = Walk {
+        grid,
+        solid,
+        sides: if solid { &SOLID } else { &FLAT },
+        whole: tape.clauses.len(),
+        heights: vec![0; pixels],
+        count: 0,
+        tiles: 0,
+    };
     let end = [grid.sizes[0], grid.sizes[1], grid.layers(solid)];
     walk.siblings(tape, [0, 0, 0], end, 0);
-    if planted("empty-picture") {
+    if planted(Fault::EmptyPicture) {
         walk.heights = vec![0; pixels];
     }
     (walk.heights, walk.count)
@@ -23,9 +32,12 @@ struct Walk<'a> {
     grid: &'a Grid,
     solid: bool,
     sides: &'a [u32],
+    /// The clauses of the whole tape.
+    whole: usize,
     heights: Vec<u16>,
     count: u64,
-    filled: bool,
+    /// The 64-tiles begun.
+    tiles: u32,
 }
 
 impl Walk<'_> {
@@ -34,47 +46,67 @@ impl Walk<'_> {
         let side = self.sides[level];
         let starts = |axis: usize| -> Vec<u32> { (first[axis]..end[axis]).step_by(side as usize).collect() };
         let mut layers = starts(2);
-        if !planted("z-upward") {
+        if !planted(Fault::LeastZFirst) {
             layers.reverse();
         }
-        let mut short = tape.clone();
+        let mut sibling = None;
         for &z in &layers {
             for &y in &starts(1) {
                 for &x in &starts(0) {
-                    if planted("first-tile-only") && level == 0 && (x, y) != (0, 0) {
-                        continue;
-                    }
-                    self.visit(tape, [x, y, z], end, level, &mut short);
+                    self.visit(tape, [x, y, z], end, level, &mut sibling);
                 }
             }
         }
     }
 
-    fn visit(&mut self, tape: &Tape, first: [u32; 3], outer: [u32; 3], level: usize, sibling: &mut Tape) {
+    /// One region. `sibling` is the tape shortened for the region before it, which only a fault asks for.
+    fn visit(&mut self, tape: &Tape, first: [u32; 3], outer: [u32; 3], level: usize, sibling: &mut Option<Tape>) {
         let side = self.sides[level];
         // cut off at the grid's edge, which the outer region's end is at the latest
         let end = [0, 1, 2].map(|a| (first[a] + side).min(outer[a]));
-        let top = end[2] as u16;
-        if self.solid && self.hidden(first, end, top) {
+        self.tiles += (level == 0) as u32;
+        if planted(Fault::FirstTileOnly) && self.tiles > 1 {
             return;
         }
-        if level + 1 == self.sides.len() {
-            self.count += tape.clauses.len() as u64;
-            if tape.material(self.grid.sample_at(self.solid, first)) {
-                self.fill(first, end, top);
-            }
+        if self.solid && self.hidden(first, end) {
+            note(Event::Hidden);
             return;
         }
         self.count += tape.clauses.len() as u64;
+        if level + 1 == self.sides.len() {
+            self.sample(tape, first, end);
+            return;
+        }
         let last = end.map(|e| e - 1);
         let (range, choices) = tape.range_over(self.grid.axes(self.solid, first, last));
         if range.high < 0 {
-            self.fill(first, end, top);
-        } else if range.low < 0 {
+            note(Event::Filled);
+            self.fill(first, end);
+        } else if range.low >= 0 {
+            note(Event::Skipped);
+        } else {
             let short = tape.shortened(&choices);
-            let given = if planted("sibling-tape") { sibling.clone() } else { short.clone() };
-            *sibling = short;
+            self.note_cut(tape, &short, level);
+            let given = given(tape, &short, sibling);
+            *sibling = Some(short);
             self.siblings(&given, first, end, level + 1);
+        }
+    }
+
+    /// A region of side 1, run on values.
+    fn sample(&mut self, tape: &Tape, first: [u32; 3], end: [u32; 3]) {
+        note(if self.solid { Event::SolidSample } else { Event::FlatSample });
+        if tape.material(self.grid.sample_at(self.solid, first)) {
+            self.fill(first, end);
+        }
+    }
+
+    fn note_cut(&self, tape: &Tape, short: &Tape, level: usize) {
+        if level == 0 && self.tiles > 1 {
+            note(Event::LaterTileCut);
+        }
+        if short.clauses.len() < tape.clauses.len() {
+            note(if tape.clauses.len() < self.whole { Event::DroppedAgain } else { Event::Dropped });
         }
     }
 
@@ -83,17 +115,27 @@ impl Walk<'_> {
         (first[1]..end[1]).flat_map(|y| (first[0]..end[0]).map(move |x| y as usize * width + x as usize)).collect()
     }
 
-    fn hidden(&self, first: [u32; 3], end: [u32; 3], top: u16) -> bool {
-        if planted("hidden-too-early") && !self.filled {
+    /// Whether every pixel already has at least the height that filling the region would give.
+    fn hidden(&self, first: [u32; 3], end: [u32; 3]) -> bool {
+        if planted(Fault::HiddenTooEarly) && self.heights.iter().all(|&h| h == 0) {
             return true;
         }
-        self.pixels(first, end).iter().all(|&p| self.heights[p] >= top)
+        self.pixels(first, end).iter().all(|&p| self.heights[p] >= end[2] as u16)
     }
 
-    fn fill(&mut self, first: [u32; 3], end: [u32; 3], top: u16) {
-        self.filled = true;
+    /// Raises each pixel's height to the region's greatest z index + 1.
+    fn fill(&mut self, first: [u32; 3], end: [u32; 3]) {
         for p in self.pixels(first, end) {
-            self.heights[p] = self.heights[p].max(top);
+            self.heights[p] = self.heights[p].max(end[2] as u16);
         }
+    }
+}
+
+/// The tape that a region's children have: its short tape, if no fault gives them another.
+fn given(tape: &Tape, short: &Tape, sibling: &Option<Tape>) -> Tape {
+    match sibling {
+        Some(other) if planted(Fault::SiblingTape) => other.clone(),
+        _ if planted(Fault::GrandparentTape) => tape.clone(),
+        _ => short.clone(),
     }
 }

@@ -1,0 +1,82 @@
+//! Random grids.
+
+use crate::random::Random;
+use slow::draw::Grid;
+
+pub const M: i64 = 2_147_483_647;
+
+/// One sample, a few, odd sizes, sizes about one 64-tile, several tiles.
+fn size(r: &mut Random) -> u32 {
+    let size = match r.below(8) {
+        0 => 1,
+        1..=3 => 1 + r.below(12),
+        4 | 5 => 1 + r.below(40),
+        6 => 62 + r.below(8),
+        _ => 60 + r.below(141),
+    };
+    size as u32
+}
+
+/// Three sizes with at most so many samples in all.
+fn sizes(r: &mut Random, most: u64) -> [u32; 3] {
+    loop {
+        let sizes = [0; 3].map(|_| size(r));
+        if sizes.iter().map(|&n| n as u64).product::<u64>() <= most {
+            return sizes;
+        }
+    }
+}
+
+/// Origin and step of an axis, anywhere in the range of values: small and great steps, samples at both ends of the range.
+fn wild_axis(r: &mut Random, size: u32) -> (i32, i32) {
+    let spaces = (size as i64 - 1).max(1);
+    let greatest = (2 * M / spaces).min(M);
+    let step = match r.below(4) {
+        0 => r.within(1, 20),
+        1 => r.within(1, greatest),
+        _ => r.within(1, 4_000_000 / size as i64),
+    };
+    let highest = M - (size as i64 - 1) * step;
+    let origin = match r.below(8) {
+        0 => -M,
+        1 => highest,
+        2 => r.within(-M, highest),
+        // 0 lies among the samples
+        _ => (-r.within(0, size as i64) * step + r.within(0, step)).clamp(-M, highest),
+    };
+    (origin as i32, step as i32)
+}
+
+/// An axis of some units about 0, where parts have their shapes.
+fn tame_axis(r: &mut Random, size: u32) -> (i32, i32) {
+    let step = r.pick(&[65_536, 20_000, 4_321]) + r.within(0, 3) * 10_007;
+    let origin = -(size as i64 / 2) * step + r.within(-step, step);
+    (origin as i32, step as i32)
+}
+
+/// An axis of the smallest values, on both sides of 0.
+fn fine_axis(r: &mut Random, size: u32) -> (i32, i32) {
+    let step = r.within(1, 300);
+    (-(r.within(0, size as i64) * step) as i32, step as i32)
+}
+
+fn grid(r: &mut Random, most: u64, axis: fn(&mut Random, u32) -> (i32, i32)) -> Grid {
+    let sizes = sizes(r, most);
+    let axes = sizes.map(|n| axis(r, n));
+    Grid { sizes, origins: axes.map(|a| a.0), steps: axes.map(|a| a.1) }
+}
+
+/// Any accepted grid of at most so many samples.
+pub fn wild(r: &mut Random, most: u64) -> Grid {
+    grid(r, most, wild_axis)
+}
+
+/// A grid of some units, with 0 in its middle.
+pub fn tame(r: &mut Random, most: u64) -> Grid {
+    grid(r, most, tame_axis)
+}
+
+/// A grid about 0 that is small beside one unit.
+pub fn fine(r: &mut Random, most: u64) -> Grid {
+    grid(r, most, fine_axis)
+}

@@ -1,0 +1,109 @@
+//! Random lists of clauses.
+
+use crate::random::Random;
+use slow::draw::Grid;
+use slow::tape::Tape;
+
+/// An accepted list of clauses: opcode, out, left, right, constant each.
+#[derive(Clone, Debug)]
+pub struct List {
+    pub slots: u32,
+    pub clauses: Vec<[i32; 5]>,
+}
+
+impl List {
+    pub fn numbers(&self) -> Vec<i32> {
+        self.clauses.concat()
+    }
+
+    pub fn tape(&self) -> Vec<u8> {
+        Tape::from_list(self.slots, &self.numbers()).expect("an accepted list").to_bytes()
+    }
+}
+
+/// What the clauses of a list are drawn from.
+struct Kind {
+    opcode: fn(&mut Random) -> u64,
+    constant: fn(&mut Random, &Grid) -> i32,
+}
+
+/// Minima and maxima most often; constants of any size, many that samples of the grid lie about.
+const CHOICES: Kind = Kind {
+    opcode: |r| match r.below(10) {
+        0 => 0,
+        1 | 2 => 1 + r.below(3),
+        3 => 4 + r.below(5),
+        4 => 9 + r.below(3),
+        _ => 12 + r.below(2),
+    },
+    constant: |r, grid| match r.below(10) {
+        0 => end(r),
+        1 => r.next() as i32 / 2,
+        2 | 3 => r.within(-2_000_000, 2_000_000) as i32,
+        _ => sample(r, grid),
+    },
+};
+
+/// Sums and products, of values at the ends of the range and about 0: where they are clamped and rounded.
+const ARITHMETIC: Kind = Kind {
+    opcode: |r| match r.below(10) {
+        0 | 1 => 0,
+        2 | 3 => 1 + r.below(3),
+        4 => 4 + r.below(5),
+        _ => 9 + r.below(3),
+    },
+    constant: |r, grid| match r.below(4) {
+        0 | 1 => end(r),
+        2 => r.within(-2, 2) as i32,
+        _ => sample(r, grid),
+    },
+};
+
+/// At an end of the range of values, or next to it.
+fn end(r: &mut Random) -> i32 {
+    r.pick(&[1, -1]) * (i32::MAX - r.below(3) as i32)
+}
+
+fn sample(r: &mut Random, grid: &Grid) -> i32 {
+    let axis = r.index(3);
+    grid.sample(axis, r.below(grid.sizes[axis] as u64) as u32) as i32
+}
+
+fn list(r: &mut Random, grid: &Grid, slots: u64, count: u64, kind: &Kind) -> List {
+    let mut written: Vec<i32> = Vec::new();
+    let mut clauses = Vec::new();
+    for _ in 0..count {
+        let opcode = if written.is_empty() { r.below(4) } else { (kind.opcode)(r) };
+        let left = if opcode >= 4 { r.pick(&written) } else { 0 };
+        let right = if opcode >= 9 { r.pick(&written) } else { 0 };
+        let constant = if opcode == 0 { (kind.constant)(r, grid) } else { 0 };
+        let out = if opcode >= 9 && r.one_in(3) { left } else { r.below(slots) as i32 };
+        clauses.push([opcode as i32, out, left, right, constant]);
+        if !written.contains(&out) {
+            written.push(out);
+        }
+    }
+    List { slots: slots as u32, clauses }
+}
+
+/// A list of choices on few slots, so that slots are used again.
+pub fn random(r: &mut Random, grid: &Grid) -> List {
+    let slots = if r.one_in(20) { 64 } else { 1 + r.below(8) };
+    let count = if r.one_in(20) { 60 } else { 1 + r.below(30) };
+    list(r, grid, slots, count, &CHOICES)
+}
+
+/// A short list of arithmetic; its result often goes past an end of the range and back.
+pub fn arithmetic(r: &mut Random, grid: &Grid) -> List {
+    let (slots, count) = (2 + r.below(3), 3 + r.below(7));
+    let mut list = list(r, grid, slots, count, &ARITHMETIC);
+    if r.one_in(2) {
+        let result = list.clauses[count as usize - 1][1];
+        let other = (result + 1) % slots as i32;
+        for _ in 0..2 {
+            list.clauses.push([0, other, 0, 0, end(r)]);
+            list.clauses.push([r.pick(&[9, 10]), result, result, other, 0]);
+        }
+    }
+    list
+}

@@ -1,0 +1,55 @@
+//! Faults planted in the slow drawing, one at a time: the comparisons must catch each.
+
+use checks::drawing::{Drawing, ARITHMETIC, DAMAGED, RANDOM, SHAPES};
+use checks::files::File;
+use checks::packing::Packing;
+use checks::program;
+use checks::random::Random;
+use slow::call::Answer;
+use slow::fault::{self, Fault};
+
+/// The kinds of comparison that the other tests make, in turn.
+const KINDS: u64 = 11;
+
+fn compare(kind: u64, r: &mut Random, noise: &mut Random) -> Result<Answer, String> {
+    let of = [RANDOM, SHAPES, ARITHMETIC, DAMAGED][kind as usize % 4].of;
+    match kind {
+        0..=3 => of(r).compare(noise).map(|a| a[0]),
+        4..=7 => {
+            let Drawing { tape, grid, .. } = of(r);
+            let record = if noise.one_in(2) { program::flat_input } else { program::input };
+            program::compare(&record(&grid, &tape))
+        }
+        8 => program::compare(&program::damaged_input(r)),
+        9 => Packing::random(r).compare(noise),
+        _ => File::random(r).compare_bitmap(noise),
+    }
+}
+
+/// The first case in which the two differ, and how.
+fn first_difference(cases: u64) -> Option<(u64, String)> {
+    let (mut r, mut noise) = (Random::new(0x5EED_0007), Random::new(0x5EED_0008));
+    (0..cases).find_map(|i| compare(i % KINDS, &mut r, &mut noise).err().map(|e| (i, e)))
+}
+
+const CASES: u64 = 2000;
+
+#[test]
+fn planted_faults_are_caught() {
+    let missed: Vec<Fault> = fault::ALL
+        .into_iter()
+        .filter(|&fault| match fault::with(fault, || first_difference(CASES)) {
+            Some((case, how)) => {
+                println!("{fault:?}: case {case}, {}", how.chars().take(120).collect::<String>());
+                false
+            }
+            None => true,
+        })
+        .collect();
+    assert!(missed.is_empty(), "not caught: {missed:?}");
+}
+
+#[test]
+fn no_fault_no_difference() {
+    assert_eq!(first_difference(CASES), None);
+}

@@ -1,0 +1,135 @@
+//! The scope paper's figures that are run rather than proved, through the library and through the program.
+
+use checks::drawing::Drawing;
+use checks::files::File;
+use checks::packing::{Packing, Unpacking};
+use checks::program;
+use checks::random::Random;
+use layers::raw;
+use slow::draw::Grid;
+
+/// The paper's tape of three clauses: an axis, the constant 131,072, their difference.
+fn tape(opcode: u8) -> Vec<u8> {
+    let mut tape = vec![0x54, 0x50, 0x01, 0x02, 0x03, 0x00, 0x00, 0x00];
+    tape.extend([0x43, 0x4C, opcode, 0x00, 0x00, 0x00, 0x00, 0x00, 0x00, 0x00]);
+    tape.extend([0x43, 0x4C, 0x00, 0x01, 0x00, 0x00, 0x00, 0x00, 0x02, 0x00]);
+    tape.extend([0x43, 0x4C, 0x0A, 0x00, 0x00, 0x01, 0x00, 0x00, 0x00, 0x00]);
+    tape
+}
+
+/// Origins 0, steps 65,536.
+fn grid(sizes: [u32; 3]) -> Grid {
+    Grid { sizes, origins: [0; 3], steps: [65_536; 3] }
+}
+
+/// A tape of so many clauses that all say 7 in slot 0.
+fn long_tape(clauses: u16) -> Vec<u8> {
+    let count = clauses.to_le_bytes();
+    let mut tape = vec![0x54, 0x50, 1, 1, count[0], count[1], 0, 0];
+    for _ in 0..clauses {
+        tape.extend([0x43, 0x4C, 0, 0, 0, 0, 7, 0, 0, 0]);
+    }
+    tape
+}
+
+fn done(count: u64) -> raw::Answer {
+    raw::Answer { number: 0, place: 0, count }
+}
+
+/// The numbers of the four drawings, each compared with the slow drawing's.
+fn numbers(drawing: &Drawing) -> [u8; 4] {
+    let mut r = Random::new(0x5EED_0009);
+    drawing.compare(&mut r).unwrap_or_else(|e| panic!("{e}")).map(|a| a.number)
+}
+
+fn program_number(input: &[u8]) -> u8 {
+    program::compare(input).unwrap_or_else(|e| panic!("{e}")).number
+}
+
+#[test]
+fn three_clauses_on_a_flat_grid() {
+    let drawing = Drawing::new(tape(0x01), grid([3, 2, 1]));
+    let (mut full, mut tiles, mut work) = ([0xFF; 2], [0xFF; 2], vec![0xFF; raw::WORK]);
+    assert_eq!(raw::draw_flat(&drawing.tape, drawing.core_grid(), &mut full), done(18));
+    assert_eq!(raw::tile_flat(&drawing.tape, drawing.core_grid(), &mut tiles, &mut work), done(24));
+    assert_eq!((full, tiles), ([0xC0; 2], [0xC0; 2]));
+    assert!(work.iter().all(|&b| b == 0));
+
+    let file = [0x50, 0x34, 0x0A, 0x33, 0x20, 0x32, 0x0A, 0xC0, 0xC0];
+    let mut out = [0xFF; 9];
+    assert_eq!(raw::write_bitmap(3, 2, &tiles, &mut out), done(0));
+    assert_eq!(out, file);
+
+    let ran = program::run(&program::flat_input(&drawing.grid, &drawing.tape));
+    assert_eq!((ran.first, ran.second, ran.status.code()), (file.to_vec(), b"24\n".to_vec(), Some(0)));
+}
+
+#[test]
+fn three_clauses_on_a_column() {
+    let drawing = Drawing::new(tape(0x03), grid([1, 1, 4]));
+    let (mut full, mut tiles, mut work) = ([0xFFFF], [0xFFFF], vec![0xFF; raw::WORK]);
+    assert_eq!(raw::draw_solid(&drawing.tape, drawing.core_grid(), &mut full), done(12));
+    assert_eq!(raw::tile_solid(&drawing.tape, drawing.core_grid(), &mut tiles, &mut work), done(18));
+    assert_eq!((full, tiles), ([2], [2]));
+
+    let file = b"P5\n1 1\n65535\n\x00\x02";
+    let mut out = [0xFF; 15];
+    assert_eq!(raw::write_heights(1, 1, &tiles, &mut out), done(0));
+    assert_eq!(&out, file);
+
+    let ran = program::run(&program::input(&drawing.grid, &drawing.tape));
+    assert_eq!((ran.first, ran.second, ran.status.code()), (file.to_vec(), b"18\n".to_vec(), Some(0)));
+}
+
+#[test]
+fn the_tape_is_its_list() {
+    let list = [1, 0, 0, 0, 0, 0, 1, 0, 0, 131_072, 10, 0, 0, 1, 0];
+    let (mut bytes, mut numbers) = ([0xFF; 38], [-1; 15]);
+    assert_eq!(raw::pack_tape(2, &list, &mut bytes), done(0));
+    assert_eq!(bytes.to_vec(), tape(0x01));
+    assert_eq!(raw::unpack_tape(&bytes, &mut numbers), raw::Listed { answer: done(0), slots: 2 });
+    assert_eq!(numbers, list);
+}
+
+#[test]
+fn clauses_up_to_1024() {
+    let mut r = Random::new(0x5EED_000A);
+    for (clauses, number) in [(1024, 0), (1025, 3)] {
+        let drawing = Drawing::new(long_tape(clauses), grid([2, 2, 2]));
+        assert_eq!(numbers(&drawing), [number; 4], "{clauses} clauses");
+        assert_eq!(program_number(&program::flat_input(&drawing.grid, &drawing.tape)), number);
+        assert_eq!(program_number(&program::input(&drawing.grid, &drawing.tape)), number);
+        assert_eq!(Unpacking::new(drawing.tape).compare(&mut r).map(|(a, _)| a.number), Ok(number));
+        let list = [0, 0, 0, 0, 7].repeat(clauses as usize);
+        assert_eq!(Packing::new(1, list).compare(&mut r).map(|a| a.number), Ok(number));
+    }
+}
+
+#[test]
+fn sizes_up_to_512() {
+    let mut r = Random::new(0x5EED_000B);
+    for axis in 0..3 {
+        for (size, number) in [(512, 0), (513, 10)] {
+            let mut sizes = [3, 2, 4];
+            sizes[axis] = size;
+            let drawing = Drawing::new(tape(0x01), grid(sizes));
+            // a flat drawing has no depth
+            let flat = if axis == 2 { 0 } else { number };
+            assert_eq!(numbers(&drawing), [flat, number, flat, number], "{sizes:?}");
+            assert_eq!(program_number(&program::flat_input(&drawing.grid, &drawing.tape)), flat);
+            // the program draws solids of width and height up to 128
+            let solid = if axis == 2 { number } else { 16 };
+            assert_eq!(program_number(&program::input(&drawing.grid, &drawing.tape)), solid);
+            let file = File::new(sizes[0], sizes[1]);
+            assert_eq!(file.compare_bitmap(&mut r).map(|a| a.number), Ok(flat));
+            assert_eq!(file.compare_heights(&mut r).map(|a| a.number), Ok(flat));
+        }
+    }
+}
+
+#[test]
+fn work_of_32768_bytes() {
+    let drawing = Drawing::new(tape(0x01), grid([3, 2, 4]));
+    assert_eq!(numbers(&Drawing { work: 32_768, ..drawing.clone() }), [0; 4]);
+    assert_eq!(numbers(&Drawing { work: 32_767, ..drawing }), [0, 0, 13, 13]);
+}

@@ -1,0 +1,9 @@
+//! The core and the program against the scope paper. One program with a file for each subject, since linking takes longer
+//! than most of the tests.
+
+mod differential;
+mod faults;
+mod figures;
+mod program;
+mod refusals;
+mod stack;

@@ -1,0 +1,166 @@
+//! The program against the slow one: on the inputs of every series, on damaged records, on short and closed pipes.
+
+use checks::drawing::{Series, ARITHMETIC, DAMAGED, RANDOM, SHAPES};
+use checks::program::{self, check, compare, damaged_input, flat_input, input};
+use checks::random::{cases, Random};
+use slow::draw::Grid;
+use std::process::Command;
+use std::time::Duration;
+
+fn same(input: &[u8]) -> u8 {
+    compare(input).unwrap_or_else(|e| panic!("{e}")).number
+}
+
+/// Every input of the series, flat and solid.
+fn run_all(test: &str, series: &Series) {
+    series.each(test, |drawing, _| {
+        same(&flat_input(&drawing.grid, &drawing.tape));
+        same(&input(&drawing.grid, &drawing.tape));
+    });
+}
+
+#[test]
+fn random_inputs() {
+    run_all("random_inputs", &RANDOM);
+}
+
+#[test]
+fn inputs_of_arithmetic() {
+    run_all("inputs_of_arithmetic", &ARITHMETIC);
+}
+
+#[test]
+fn inputs_of_shapes() {
+    run_all("inputs_of_shapes", &SHAPES);
+}
+
+#[test]
+fn damaged_tapes_and_grids() {
+    run_all("damaged_tapes_and_grids", &DAMAGED);
+}
+
+/// Each number of the program's is met: all but 12 to 14, which its own buffers rule out.
+#[test]
+fn damaged_records() {
+    let mut r = Random::seeded("damaged_records", 0x5EED_0010);
+    let (mut met, cases) = ([0; 17], cases(2000));
+    for _ in 0..cases {
+        met[same(&damaged_input(&mut r)) as usize] += 1;
+    }
+    println!("damaged_records: answers by number: {met:?}");
+    for (number, n) in met.into_iter().enumerate() {
+        assert!((12..=14).contains(&number) || n >= cases / 1000, "answers by number: {met:?}");
+    }
+}
+
+/// A ball, 40 wide and high; flat or solid.
+fn ball(depth: u32) -> Vec<u8> {
+    let list = [
+        [1, 0, 0, 0, 0],
+        [7, 0, 0, 0, 0],
+        [2, 1, 0, 0, 0],
+        [7, 1, 1, 0, 0],
+        [9, 0, 0, 1, 0],
+        [3, 1, 0, 0, 0],
+        [7, 1, 1, 0, 0],
+        [9, 0, 0, 1, 0],
+        [8, 0, 0, 0, 0],
+        [0, 1, 0, 0, 15 * 65_536],
+        [10, 0, 0, 1, 0],
+    ];
+    let tape = slow::tape::Tape::from_list(2, &list.concat()).expect("an accepted list").to_bytes();
+    input(&Grid { sizes: [40, 40, depth], origins: [-20 * 65_536; 3], steps: [65_536; 3] }, &tape)
+}
+
+/// A pipe that gives a little at a time.
+#[test]
+fn input_in_pieces() {
+    for depth in [0, 40] {
+        let whole = ball(depth);
+        for (piece, pause) in [(1, 200), (7, 1000), (31, 2000), (33, 2000)] {
+            let ran = program::run_in_pieces(&whole, piece, Duration::from_micros(pause));
+            let said = check(&ran, &whole).unwrap_or_else(|e| panic!("pieces of {piece}: {e}"));
+            assert!(said.number == 0 && said.count > 0);
+        }
+    }
+}
+
+/// A pipe that ends too soon: after any number of bytes.
+#[test]
+fn input_cut_off() {
+    let whole = ball(0);
+    for len in 0..whole.len() {
+        assert_ne!(same(&whole[..len]), 0, "{len} bytes");
+    }
+    assert_eq!(same(&whole), 0);
+}
+
+#[test]
+fn empty_input() {
+    let ran = program::run(&[]);
+    assert_eq!((&ran.first[..], &ran.second[..]), (&b"refused 15 at 0\n"[..], &b""[..]));
+    assert!(ran.status.code().is_some());
+}
+
+#[test]
+fn bytes_behind_the_tape() {
+    for more in [1, 2, 10, 100_000] {
+        let bytes = [ball(0), vec![0; more]].concat();
+        let ran = program::run(&bytes);
+        assert_eq!(ran.first, b"refused 4 at 0\n");
+        check(&ran, &bytes).unwrap_or_else(|e| panic!("{e}"));
+    }
+}
+
+/// Input that is longer than any accepted one need not be read to its end, so its writer may find the pipe closed.
+#[test]
+fn a_million_bytes_of_noise() {
+    let mut r = Random::seeded("a_million_bytes_of_noise", 0x5EED_0011);
+    let noise = r.bytes(1_000_000);
+    let ball = ball(0);
+    let marked = |good: usize| [&ball[..good], &noise[good..]].concat();
+    // noise alone, behind the mark, behind the record, behind the tape's head, behind the tape
+    for (good, number) in [(0, 15), (2, 16), (32, 2), (40, 4), (ball.len(), 4)] {
+        let bytes = marked(good);
+        let ran = program::run(&bytes);
+        let said = check(&ran, &bytes).unwrap_or_else(|e| panic!("{good} good bytes: {e}"));
+        assert_eq!((said.number, said.place), (number, 0), "{good} good bytes");
+        if let Err(e) = ran.fed {
+            assert_eq!(e.kind(), std::io::ErrorKind::BrokenPipe);
+        }
+    }
+}
+
+/// Nobody reads one of the two outputs, or nobody reads either: the program ends all the same.
+#[test]
+fn outputs_closed_early() {
+    for (first, second) in [(true, false), (false, true), (true, true)] {
+        for bytes in [ball(0), ball(40), Vec::new()] {
+            let mut child = program::start(program::command());
+            if first {
+                drop(child.stdout.take());
+            }
+            if second {
+                drop(child.stderr.take());
+            }
+            let to = child.stdin.take().unwrap();
+            program::feed(to, &bytes, bytes.len().max(1), Duration::ZERO).expect("input is taken");
+            program::end(&mut child);
+        }
+    }
+}
+
+/// A descriptor that is not there at all.
+#[test]
+fn descriptors_missing() {
+    let program = program::command();
+    for closed in ["<&-", ">&-", "2>&-", "<&- >&- 2>&-"] {
+        let mut shell = Command::new("sh");
+        shell.arg("-c").arg(format!("exec \"$0\" {closed}")).arg(program.get_program());
+        let mut child = program::start(shell);
+        let to = child.stdin.take().unwrap();
+        // with no descriptor to read from, the program may be gone before it is fed
+        let _ = program::feed(to, &ball(40), 1000, Duration::ZERO);
+        program::end(&mut child);
+    }
+}
