@@ -42,6 +42,10 @@ fn tape(r: &mut Random, tape: &mut Vec<u8>) {
             let fields = r.noise(8, |v| (v >> 32) as u8 % 15);
             tape[clause + 2..clause + 10].copy_from_slice(&fields);
         }
+        8 => {
+            let any = r.next() as u8;
+            tape[r.index(8)] = r.pick(&[0, 65, any]);
+        }
         _ => {
             let at = r.index(tape.len());
             tape[at] = r.next() as u8;

@@ -102,24 +102,22 @@ impl Drawing {
 
 /// Cases from one seed, the same in every test that asks for them.
 pub struct Series {
-    pub name: &'static str,
     pub seed: u64,
     pub cases: u64,
     pub of: fn(&mut Random) -> Drawing,
 }
 
-pub const RANDOM: Series = Series { name: "random", seed: 0x5EED_0001, cases: 3000, of: Drawing::random };
-pub const ARITHMETIC: Series = Series { name: "arithmetic", seed: 0x5EED_0002, cases: 3000, of: Drawing::arithmetic };
-pub const SHAPES: Series = Series { name: "shapes", seed: 0x5EED_0003, cases: 1500, of: Drawing::shapes };
-pub const DAMAGED: Series = Series { name: "damaged", seed: 0x5EED_0004, cases: 4000, of: Drawing::damaged };
+pub const RANDOM: Series = Series { seed: 0x5EED_0001, cases: 3000, of: Drawing::random };
+pub const ARITHMETIC: Series = Series { seed: 0x5EED_0002, cases: 3000, of: Drawing::arithmetic };
+pub const SHAPES: Series = Series { seed: 0x5EED_0003, cases: 1500, of: Drawing::shapes };
+pub const DAMAGED: Series = Series { seed: 0x5EED_0004, cases: 4000, of: Drawing::damaged };
 
 impl Series {
     /// Calls `check` with each case; the noise in the buffers has a seed of its own. The number of cases comes back.
     pub fn each(&self, test: &str, mut check: impl FnMut(&Drawing, &mut Random)) -> u64 {
-        let mut r = Random::seeded(test, self.seed);
-        let mut noise = Random::seeded(test, self.seed ^ 0xFFFF);
         let cases = cases(self.cases);
-        println!("{test}: {cases} cases, {}", self.name);
+        let mut r = Random::seeded(&format!("{test}: {cases} cases"), self.seed);
+        let mut noise = Random::new(self.seed ^ 0xFFFF);
         for _ in 0..cases {
             check(&(self.of)(&mut r), &mut noise);
         }

@@ -89,21 +89,28 @@ fn list(r: &mut Random, grid: &Grid, slots: u64, count: u64, kind: &Kind) -> Lis
 /// A list of choices on few slots, so that slots are used again.
 pub fn random(r: &mut Random, grid: &Grid) -> List {
     let slots = if r.one_in(20) { 64 } else { 1 + r.below(8) };
-    let count = if r.one_in(20) { 60 } else { 1 + r.below(30) };
+    let count = match r.below(200) {
+        0 => 1024,
+        1..=9 => 60,
+        _ => 1 + r.below(30),
+    };
     list(r, grid, slots, count, &CHOICES)
 }
 
-/// A short list of arithmetic; its result often goes past an end of the range and back.
+/// A short list of arithmetic; its result often goes past an end of the range and back, or is a product about 0.
 pub fn arithmetic(r: &mut Random, grid: &Grid) -> List {
     let (slots, count) = (2 + r.below(3), 3 + r.below(7));
     let mut list = list(r, grid, slots, count, &ARITHMETIC);
-    if r.one_in(2) {
-        let result = list.clauses[count as usize - 1][1];
-        let other = (result + 1) % slots as i32;
-        for _ in 0..2 {
-            list.clauses.push([0, other, 0, 0, end(r)]);
-            list.clauses.push([r.pick(&[9, 10]), result, result, other, 0]);
-        }
+    let result = list.clauses[count as usize - 1][1];
+    let other = (result + 1) % slots as i32;
+    let mut and_then = |what: [i32; 2], opcode: i32| {
+        list.clauses.push([what[0], other, 0, 0, what[1]]);
+        list.clauses.push([opcode, result, result, other, 0]);
+    };
+    match r.below(3) {
+        0 => [0; 2].iter().for_each(|_| and_then([0, end(r)], r.pick(&[9, 10]))),
+        1 => and_then([r.pick(&[1, 2, 3]), 0], 11),
+        _ => {}
     }
     list
 }

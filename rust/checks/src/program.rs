@@ -33,8 +33,8 @@ pub fn damaged_input(r: &mut Random) -> Vec<u8> {
     let mut bytes = if r.one_in(2) { flat_input(&grid, &tape) } else { input(&grid, &tape) };
     for _ in 0..1 + r.below(3) {
         let (at, field) = match r.below(10) {
-            0 | 1 => (r.index(2), r.bytes(1)),
-            2 | 3 => (2, r.pick(&[[129, 0, 1, 0], [1, 0, 129, 0], [128, 0, 128, 0]]).to_vec()),
+            0 => (r.index(2), r.bytes(1)),
+            1..=3 => (2, r.pick(&[[129, 0, 1, 0], [1, 0, 129, 0], [128, 0, 128, 0]]).to_vec()),
             4..=6 => (28, r.pick(&[0, -1, i32::MIN]).to_le_bytes().to_vec()),
             _ => (6, r.pick(&[0, 1, 600, 65_535u16]).to_le_bytes().to_vec()),
         };
@@ -126,18 +126,18 @@ pub fn run(input: &[u8]) -> Ran {
 /// What a run must have left, by the slow program; the answer, or how the two differ.
 pub fn check(ran: &Ran, input: &[u8]) -> Result<Answer, String> {
     let said = program(input);
-    let name = |what: &str| format!("program: {what}, {:?} expected, on {} bytes {:?}", said.answer, input.len(), &input[..input.len().min(400)]);
-    if ran.first != said.first {
-        return Err(name(&format!("standard output is {:?}", String::from_utf8_lossy(&ran.first))));
-    }
-    if ran.second != said.second {
-        return Err(name(&format!("descriptor 2 has {:?}", String::from_utf8_lossy(&ran.second))));
-    }
-    match ran.status.code() {
-        None => Err(name("ended by a signal")),
-        Some(code) if said.answer.number == 0 && code != 0 => Err(name(&format!("exit status {code}"))),
-        Some(_) => Ok(said.answer),
-    }
+    let code = ran.status.code();
+    let wrong = if ran.first != said.first {
+        format!("standard output is {:?}", String::from_utf8_lossy(&ran.first))
+    } else if ran.second != said.second {
+        format!("descriptor 2 has {:?}", String::from_utf8_lossy(&ran.second))
+    } else if code.is_none() || (said.answer.number == 0 && code != Some(0)) {
+        format!("it ended with {}", ran.status)
+    } else {
+        return Ok(said.answer);
+    };
+    let shown = &input[..input.len().min(400)];
+    Err(format!("program: {wrong}, but {:?} expected, on {} bytes {shown:?}", said.answer, input.len()))
 }
 
 /// Runs the program beside the slow one.

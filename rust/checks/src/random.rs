@@ -1,5 +1,7 @@
 //! Numbers from a fixed seed.
 
+use std::io::{stderr, Write};
+
 pub struct Random(u64);
 
 impl Random {
@@ -7,9 +9,9 @@ impl Random {
         Random(seed)
     }
 
-    /// The seed is printed, so that a failure tells it.
+    /// The seed is printed past the test runner, which keeps back what a passing test prints.
     pub fn seeded(test: &str, seed: u64) -> Self {
-        println!("{test}: seed {seed:#x}");
+        writeln!(stderr(), "{test}: seed {seed:#x}").expect("a place to print to");
         Random::new(seed)
     }
 

@@ -153,3 +153,26 @@ pub fn range(opcode: u8, constant: i32, axes: [Range; 3], a: Range, b: Range) ->
         _ => unreachable!("opcode {opcode}"),
     }
 }
+
+/// The scope paper's marked figures, so that what the tests compare with holds them too.
+#[cfg(test)]
+mod tests {
+    use super::*;
+
+    #[test]
+    fn values() {
+        let products = [(-1, 1), (1, 1), (M, M), (-M, M)].map(|(a, b)| multiply(a, b));
+        assert_eq!(products, [-1, 0, M, -M]);
+        assert_eq!([add(M, 1), subtract(-M, 1)], [M, -M]);
+        assert_eq!([-5, 1, 2, 65_536].map(root), [0, 256, 362, 65_536]);
+        assert_eq!([255, 256, -98_304].map(|a| multiply(a, a)), [0, 1, 147_456]);
+    }
+
+    #[test]
+    fn ranges() {
+        let unit = Range::new(-1, 1);
+        assert_eq!(unit.multiply(unit), Range::new(-1, 0));
+        assert_eq!(choice(12, Range::new(0, 4), Range::new(5, 9)), Choice::Left);
+        assert_eq!(choice(12, Range::new(0, 5), Range::new(5, 9)), Choice::Both);
+    }
+}

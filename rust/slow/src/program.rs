@@ -52,10 +52,10 @@ fn drawn(input: &[u8]) -> Result<(Vec<u8>, u64), Refused> {
     }
     let tape = Tape::from_bytes(&input[RECORD..])?;
     small_enough(&grid)?;
+    grid.check(solid)?;
     if planted(Fault::ThirdStepRead) && grid.steps[2] < 1 {
         return refuse(11);
     }
-    grid.check(solid)?;
     let (heights, count) = walk::walk(&tape, &grid, solid);
     Ok((file(&grid, &heights), count))
 }

@@ -86,7 +86,7 @@ fn damaged_drawings() {
 
 #[test]
 fn lists_and_tapes() {
-    let mut r = Random::seeded("lists_and_tapes", 0x5EED_0004);
+    let mut r = Random::seeded("lists_and_tapes", 0x5EED_0007);
     for _ in 0..cases(4000) {
         Packing::random(&mut r).compare(&mut r).unwrap_or_else(|e| panic!("{e}"));
         let mut unpacking = Unpacking::new(Drawing::damaged(&mut r).tape);
@@ -97,7 +97,7 @@ fn lists_and_tapes() {
 
 #[test]
 fn files() {
-    let mut r = Random::seeded("files", 0x5EED_0005);
+    let mut r = Random::seeded("files", 0x5EED_0008);
     for _ in 0..cases(2000) {
         let file = File::random(&mut r);
         file.compare_bitmap(&mut r).unwrap_or_else(|e| panic!("{e}"));

@@ -8,6 +8,9 @@ use checks::random::Random;
 use slow::call::Answer;
 use slow::fault::{self, Fault};
 
+const SEED: u64 = 0x5EED_0030;
+const CASES: u64 = 2000;
+
 /// The kinds of comparison that the other tests make, in turn.
 const KINDS: u64 = 11;
 
@@ -27,29 +30,27 @@ fn compare(kind: u64, r: &mut Random, noise: &mut Random) -> Result<Answer, Stri
 }
 
 /// The first case in which the two differ, and how.
-fn first_difference(cases: u64) -> Option<(u64, String)> {
-    let (mut r, mut noise) = (Random::new(0x5EED_0007), Random::new(0x5EED_0008));
-    (0..cases).find_map(|i| compare(i % KINDS, &mut r, &mut noise).err().map(|e| (i, e)))
+fn first_difference(planted: &str) -> Option<(u64, String)> {
+    let (mut r, mut noise) = (Random::seeded(planted, SEED), Random::new(SEED ^ 0xFFFF));
+    (0..CASES).find_map(|i| compare(i % KINDS, &mut r, &mut noise).err().map(|e| (i, e)))
 }
 
-const CASES: u64 = 2000;
+/// Whether the comparisons catch the fault.
+fn caught(fault: Fault) -> bool {
+    let found = fault::with(fault, || first_difference(&format!("{fault:?}")));
+    if let Some((case, how)) = &found {
+        println!("{fault:?}: case {case}, {}", how.chars().take(120).collect::<String>());
+    }
+    found.is_some()
+}
 
 #[test]
 fn planted_faults_are_caught() {
-    let missed: Vec<Fault> = fault::ALL
-        .into_iter()
-        .filter(|&fault| match fault::with(fault, || first_difference(CASES)) {
-            Some((case, how)) => {
-                println!("{fault:?}: case {case}, {}", how.chars().take(120).collect::<String>());
-                false
-            }
-            None => true,
-        })
-        .collect();
+    let missed: Vec<Fault> = fault::ALL.into_iter().filter(|&f| !caught(f)).collect();
     assert!(missed.is_empty(), "not caught: {missed:?}");
 }
 
 #[test]
 fn no_fault_no_difference() {
-    assert_eq!(first_difference(CASES), None);
+    assert_eq!(first_difference("no fault"), None);
 }

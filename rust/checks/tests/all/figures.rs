@@ -42,6 +42,13 @@ fn numbers(drawing: &Drawing) -> [u8; 4] {
     drawing.compare(&mut r).unwrap_or_else(|e| panic!("{e}")).map(|a| a.number)
 }
 
+/// The program's run, which must be the slow program's too.
+fn run(input: &[u8]) -> (Vec<u8>, Vec<u8>, Option<i32>) {
+    let ran = program::run(input);
+    program::check(&ran, input).unwrap_or_else(|e| panic!("{e}"));
+    (ran.first, ran.second, ran.status.code())
+}
+
 fn program_number(input: &[u8]) -> u8 {
     program::compare(input).unwrap_or_else(|e| panic!("{e}")).number
 }
@@ -60,8 +67,8 @@ fn three_clauses_on_a_flat_grid() {
     assert_eq!(raw::write_bitmap(3, 2, &tiles, &mut out), done(0));
     assert_eq!(out, file);
 
-    let ran = program::run(&program::flat_input(&drawing.grid, &drawing.tape));
-    assert_eq!((ran.first, ran.second, ran.status.code()), (file.to_vec(), b"24\n".to_vec(), Some(0)));
+    let input = program::flat_input(&drawing.grid, &drawing.tape);
+    assert_eq!(run(&input), (file.to_vec(), b"24\n".to_vec(), Some(0)));
 }
 
 #[test]
@@ -77,8 +84,8 @@ fn three_clauses_on_a_column() {
     assert_eq!(raw::write_heights(1, 1, &tiles, &mut out), done(0));
     assert_eq!(&out, file);
 
-    let ran = program::run(&program::input(&drawing.grid, &drawing.tape));
-    assert_eq!((ran.first, ran.second, ran.status.code()), (file.to_vec(), b"18\n".to_vec(), Some(0)));
+    let input = program::input(&drawing.grid, &drawing.tape);
+    assert_eq!(run(&input), (file.to_vec(), b"18\n".to_vec(), Some(0)));
 }
 
 #[test]

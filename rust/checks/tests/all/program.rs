@@ -4,7 +4,7 @@ use checks::drawing::{Series, ARITHMETIC, DAMAGED, RANDOM, SHAPES};
 use checks::program::{self, check, compare, damaged_input, flat_input, input};
 use checks::random::{cases, Random};
 use slow::draw::Grid;
-use std::process::Command;
+use std::process::{Child, Command};
 use std::time::Duration;
 
 fn same(input: &[u8]) -> u8 {
@@ -49,12 +49,12 @@ fn damaged_records() {
     }
     println!("damaged_records: answers by number: {met:?}");
     for (number, n) in met.into_iter().enumerate() {
-        assert!((12..=14).contains(&number) || n >= cases / 1000, "answers by number: {met:?}");
+        assert!((12..=14).contains(&number) || n >= cases / 500, "answers by number: {met:?}");
     }
 }
 
-/// A ball, 40 wide and high; flat or solid.
-fn ball(depth: u32) -> Vec<u8> {
+/// A ball on a grid about its centre; depth 0 is flat.
+fn ball_on(sizes: [u32; 3]) -> Vec<u8> {
     let list = [
         [1, 0, 0, 0, 0],
         [7, 0, 0, 0, 0],
@@ -69,7 +69,19 @@ fn ball(depth: u32) -> Vec<u8> {
         [10, 0, 0, 1, 0],
     ];
     let tape = slow::tape::Tape::from_list(2, &list.concat()).expect("an accepted list").to_bytes();
-    input(&Grid { sizes: [40, 40, depth], origins: [-20 * 65_536; 3], steps: [65_536; 3] }, &tape)
+    let steps = sizes.map(|n| 40 * 65_536 / n.max(1) as i32);
+    input(&Grid { sizes, origins: [-20 * 65_536, -20 * 65_536, -10 * 65_536], steps }, &tape)
+}
+
+fn ball(depth: u32) -> Vec<u8> {
+    ball_on([40, 40, depth])
+}
+
+#[test]
+fn largest_pictures() {
+    for sizes in [[512, 512, 0], [128, 128, 512], [511, 1, 0], [1, 127, 511]] {
+        assert_eq!(same(&ball_on(sizes)), 0, "{sizes:?}");
+    }
 }
 
 /// A pipe that gives a little at a time.
@@ -131,6 +143,13 @@ fn a_million_bytes_of_noise() {
     }
 }
 
+fn feed_and_end(child: &mut Child, input: &[u8]) {
+    let to = child.stdin.take().unwrap();
+    // a program that finds a descriptor closed may be gone before it is fed
+    let _ = program::feed(to, input, 1000, Duration::ZERO);
+    program::end(child);
+}
+
 /// Nobody reads one of the two outputs, or nobody reads either: the program ends all the same.
 #[test]
 fn outputs_closed_early() {
@@ -143,9 +162,7 @@ fn outputs_closed_early() {
             if second {
                 drop(child.stderr.take());
             }
-            let to = child.stdin.take().unwrap();
-            program::feed(to, &bytes, bytes.len().max(1), Duration::ZERO).expect("input is taken");
-            program::end(&mut child);
+            feed_and_end(&mut child, &bytes);
         }
     }
 }
@@ -157,10 +174,6 @@ fn descriptors_missing() {
     for closed in ["<&-", ">&-", "2>&-", "<&- >&- 2>&-"] {
         let mut shell = Command::new("sh");
         shell.arg("-c").arg(format!("exec \"$0\" {closed}")).arg(program.get_program());
-        let mut child = program::start(shell);
-        let to = child.stdin.take().unwrap();
-        // with no descriptor to read from, the program may be gone before it is fed
-        let _ = program::feed(to, &ball(40), 1000, Duration::ZERO);
-        program::end(&mut child);
+        feed_and_end(&mut program::start(shell), &ball(40));
     }
 }
