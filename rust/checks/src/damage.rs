@@ -43,12 +43,12 @@ fn tape(r: &mut Random, tape: &mut Vec<u8>) {
             tape[clause + 2..clause + 10].copy_from_slice(&fields);
         }
         8 => {
-            let any = r.next() as u8;
+            let any = r.number() as u8;
             tape[r.index(8)] = r.pick(&[0, 65, any]);
         }
         _ => {
             let at = r.index(tape.len());
-            tape[at] = r.next() as u8;
+            tape[at] = r.number() as u8;
         }
     }
 }

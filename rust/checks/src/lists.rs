@@ -38,7 +38,7 @@ const CHOICES: Kind = Kind {
     },
     constant: |r, grid| match r.below(10) {
         0 => end(r),
-        1 => r.next() as i32 / 2,
+        1 => r.number() as i32 / 2,
         2 | 3 => r.within(-2_000_000, 2_000_000) as i32,
         _ => sample(r, grid),
     },

@@ -36,7 +36,7 @@ impl Packing {
             0 => case.slots = r.pick(&[0, 64, 65, 1_000_000]),
             1 | 2 => {
                 let at = r.index(case.list.len());
-                let any = r.next() as i32;
+                let any = r.number() as i32;
                 case.list[at] = r.pick(&[-1, 14, 64, i32::MIN, i32::MAX, any]);
             }
             3 => case.list.truncate(r.index(case.list.len())),

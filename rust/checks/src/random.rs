@@ -11,11 +11,12 @@ impl Random {
 
     /// The seed is printed past the test runner, which keeps back what a passing test prints.
     pub fn seeded(test: &str, seed: u64) -> Self {
-        writeln!(stderr(), "{test}: seed {seed:#x}").expect("a place to print to");
+        let line = format!("{test}: seed {seed:#x}\n");
+        stderr().write_all(line.as_bytes()).expect("a place to print to");
         Random::new(seed)
     }
 
-    pub fn next(&mut self) -> u64 {
+    pub fn number(&mut self) -> u64 {
         self.0 ^= self.0 << 13;
         self.0 ^= self.0 >> 7;
         self.0 ^= self.0 << 17;
@@ -23,7 +24,7 @@ impl Random {
     }
 
     pub fn below(&mut self, n: u64) -> u64 {
-        (self.next() >> 11) % n
+        (self.number() >> 11) % n
     }
 
     pub fn one_in(&mut self, n: u64) -> bool {
@@ -45,7 +46,7 @@ impl Random {
 
     /// A buffer full of noise.
     pub fn noise<T>(&mut self, len: usize, of: fn(u64) -> T) -> Vec<T> {
-        (0..len).map(|_| of(self.next())).collect()
+        (0..len).map(|_| of(self.number())).collect()
     }
 
     pub fn bytes(&mut self, len: usize) -> Vec<u8> {

@@ -8,7 +8,7 @@ const UNIT: i128 = 65_536;
 
 /// The nearest number from −M to M.
 pub fn clamp(v: i128) -> i128 {
-    v.max(-M).min(M)
+    v.clamp(-M, M)
 }
 
 /// v/65,536 toward minus infinity.

@@ -34,7 +34,7 @@ impl Grid {
         if self.sizes[..axes].iter().any(|n| !(1..=512).contains(n)) {
             return refuse(10);
         }
-        let outside = |v: i128| v < -M || v > M;
+        let outside = |v: i128| !(-M..=M).contains(&v);
         for axis in 0..axes {
             let last = self.sample(axis, self.sizes[axis] - 1);
             if self.steps[axis] < 1 || outside(self.origins[axis] as i128) || outside(last) {
