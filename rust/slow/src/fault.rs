@@ -2,71 +2,46 @@
 
 use std::cell::Cell;
 
-/// The first ten are those of the scope paper's list "Faults that draw a good-looking picture".
-#[derive(Clone, Copy, Debug, PartialEq, Eq)]
-pub enum Fault {
-    /// A dropped minimum leaves its choice to be taken by another clause.
-    ChoiceSlips,
-    /// Out is cleared after the slots read were added.
-    OutClearedLast,
-    /// A region's children have the tape shortened for its sibling.
-    SiblingTape,
-    RoundsTowardZero,
-    ClampsAtTheEnd,
-    ZeroIsMaterial,
-    /// The first 64-tile is drawn truly, the rest is left blank.
-    FirstTileOnly,
-    /// Regions are passed over as hidden before any height is set.
-    HiddenTooEarly,
-    BufferAsFound,
-    EmptyPicture,
-    /// A region's children have the tape that the region has: the right picture, the wrong count.
-    GrandparentTape,
-    /// The least z first: the right picture, the wrong count.
-    LeastZFirst,
-    WorkNotCleared,
-    /// The picture is written before the work buffer is measured.
-    WrittenWhenRefused,
-    /// A spare bit of the picture comes out in the bitmap file.
-    SpareBitsKept,
-    PlaceFromOne,
-    /// An unused field that is not 0 is found before a slot out of range.
-    SevenBeforeSix,
-    GridBeforeTape,
-    WorkBeforePicture,
-    SixteenBeforeFifteen,
-    SixteenAfterTape,
-    /// The program refuses a flat picture for its third step.
-    ThirdStepRead,
-    /// A refused input leaves a count on descriptor 2.
-    CountWhenRefused,
+listed! {
+    /// The first ten are those of the scope paper's list "Faults that draw a good-looking picture".
+    Fault {
+        /// A dropped minimum leaves its choice to be taken by another clause.
+        ChoiceSlips,
+        /// Out is cleared after the slots read were added.
+        OutClearedLast,
+        /// A region's children have the tape shortened for its sibling.
+        SiblingTape,
+        RoundsTowardZero,
+        ClampsAtTheEnd,
+        ZeroIsMaterial,
+        /// The first 64-tile is drawn truly, the rest is left blank.
+        FirstTileOnly,
+        /// Regions are passed over as hidden before any height is set.
+        HiddenTooEarly,
+        BufferAsFound,
+        EmptyPicture,
+        /// A region's children have the tape that the region has: the right picture, the wrong count.
+        GrandparentTape,
+        /// The least z first: the right picture, the wrong count.
+        LeastZFirst,
+        WorkNotCleared,
+        /// The picture is written before the work buffer is measured.
+        WrittenWhenRefused,
+        /// A spare bit of the picture comes out in the bitmap file.
+        SpareBitsKept,
+        PlaceFromOne,
+        /// An unused field that is not 0 is found before a slot out of range.
+        SevenBeforeSix,
+        GridBeforeTape,
+        WorkBeforePicture,
+        SixteenBeforeFifteen,
+        SixteenAfterTape,
+        /// The program refuses a flat picture for its third step.
+        ThirdStepRead,
+        /// A refused input leaves a count on descriptor 2.
+        CountWhenRefused,
+    }
 }
-
-pub const ALL: [Fault; 23] = [
-    Fault::ChoiceSlips,
-    Fault::OutClearedLast,
-    Fault::SiblingTape,
-    Fault::RoundsTowardZero,
-    Fault::ClampsAtTheEnd,
-    Fault::ZeroIsMaterial,
-    Fault::FirstTileOnly,
-    Fault::HiddenTooEarly,
-    Fault::BufferAsFound,
-    Fault::EmptyPicture,
-    Fault::GrandparentTape,
-    Fault::LeastZFirst,
-    Fault::WorkNotCleared,
-    Fault::WrittenWhenRefused,
-    Fault::SpareBitsKept,
-    Fault::PlaceFromOne,
-    Fault::SevenBeforeSix,
-    Fault::GridBeforeTape,
-    Fault::WorkBeforePicture,
-    Fault::SixteenBeforeFifteen,
-    Fault::SixteenAfterTape,
-    Fault::ThirdStepRead,
-    Fault::CountWhenRefused,
-];
 
 thread_local! {
     static PLANTED: Cell<Option<Fault>> = const { Cell::new(None) };

@@ -1,6 +1,21 @@
 //! The rules of the scope paper in plain Rust, with wide integers and no cleverness, for tests to compare with. Written
 //! from the paper alone. Nothing here is fast or proved.
 
+/// An enum and the list of its cases.
+macro_rules! listed {
+    ($(#[$about:meta])* $kind:ident { $($(#[$of:meta])* $case:ident,)* }) => {
+        $(#[$about])*
+        #[derive(Clone, Copy, Debug, PartialEq, Eq)]
+        pub enum $kind {
+            $($(#[$of])* $case,)*
+        }
+
+        impl $kind {
+            pub const ALL: &'static [$kind] = &[$($kind::$case),*];
+        }
+    };
+}
+
 pub mod arith;
 pub mod call;
 pub mod draw;

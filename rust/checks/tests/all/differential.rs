@@ -10,7 +10,7 @@ use slow::seen::{self, Event};
 /// In how many cases each thing was met.
 #[derive(Default)]
 struct Met {
-    events: [u64; seen::ALL.len()],
+    events: [u64; Event::ALL.len()],
     opcodes: [u64; 14],
     end_constants: u64,
 }
@@ -29,7 +29,7 @@ impl Met {
     }
 
     fn events(&self) -> Vec<(Event, u64)> {
-        seen::ALL.into_iter().zip(self.events).collect()
+        Event::ALL.iter().copied().zip(self.events).collect()
     }
 }
 

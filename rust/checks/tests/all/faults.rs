@@ -46,7 +46,7 @@ fn caught(fault: Fault) -> bool {
 
 #[test]
 fn planted_faults_are_caught() {
-    let missed: Vec<Fault> = fault::ALL.into_iter().filter(|&f| !caught(f)).collect();
+    let missed: Vec<Fault> = Fault::ALL.iter().copied().filter(|&f| !caught(f)).collect();
     assert!(missed.is_empty(), "not caught: {missed:?}");
 }
 
