@@ -69,3 +69,6 @@ most-length v = most 20 v
 -- A file's sizes have room for 5 digits.
 pub as-size : (v : ℕ) → v < 1000 → numeral v ≡ decimal v
 as-size v h = enough 4 19 v (omega arith) (omega arith)
+
+pub few-digits : (v : ℕ) → v < 1000 → length (decimal v) ≤ 3
+few-digits v h = omega (arith, ap length (enough 2 4 v (omega arith) (omega arith)), most 3 v)

@@ -2,7 +2,7 @@
 use mathlib.Core.Path.{_≡_, refl, sym, ap, _∙_}
 use mathlib.Core.Bool.{Bool, true, false, not, _&&_}
 use mathlib.Core.List.{List, _∷_}
-use Prim.Native.Nat.{ℕ, suc, _+_, _*_, _≤_}
+use Prim.Native.Nat.{ℕ, suc, _+_, _*_, _≤_, _<_}
 use native.Mathlib.Nat.{mul-le-mul}
 use native.Mathlib.Omega.{arith}
 use lib.Dec.{leb}
@@ -13,6 +13,7 @@ use Rattle.rules.specs.Pictures.{stride, sidesOk, decimal, head, cleanRows, bit
 use Rattle.rules.proofs.Order.{and-left, and-right}
 use Rattle.netpbm.specs.FileParts.{sizes}
 use Rattle.netpbm.specs.Files.{FileWith}
+use Rattle.netpbm.proofs.Digits.{few-digits}
 use Rattle.netpbm.proofs.FileRows.{length-clean-rows, length-high-first}
 
 -- Both sides, tested one after the other.
@@ -62,6 +63,9 @@ length-sizes w h = simp length-append (omega arith)
 pub length-head : (k w h : ℕ) → length (head k w h) ≡ 5 + length (decimal w) + length (decimal h)
 unfolding head
 length-head k w h = omega (arith, length-sizes w h)
+
+pub short-head : (k w h : ℕ) → w < 1000 → h < 1000 → length (head k w h) ≤ 11
+short-head k w h i j = omega (arith, length-head k w h, few-digits w i, few-digits h j)
 
 pub length-bitmap : (w h : ℕ) (p : List ℕ) → length p ≡ h * stride w → length (bitmapFile w h p) ≡ length (head 52 w h) + length p
 unfolding bitmapFile

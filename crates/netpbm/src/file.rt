@@ -22,7 +22,7 @@ fn sides_ok(width: u32, height: u32) -> bool
 }
 
 // The length of a file whose rows, with all that stands between them and the line of sizes, have `rest` bytes.
-fn file_length(width: u32, height: u32, rest: usize) -> usize
+pub fn file_length(width: u32, height: u32, rest: usize) -> usize
     requires { ⌜ width < 1000 ⌝ }
     requires { ⌜ height < 1000 ⌝ }
     requires { ⌜ rest < 1000000 ⌝ }

@@ -1,0 +1,22 @@
+// The program: a grid record and a tape on standard input, the file on standard output and the count on descriptor 2, or the
+// refusal on standard output.
+use program::LINE;
+use program::OUTPUT;
+use program::draw_layer;
+
+// One byte more than the longest input that can be drawn, 32 of a record and 10,248 of a tape. A longer one is refused, for
+// whatever is behind that byte.
+const INPUT: usize = 10281;
+
+fn main() {
+    let mut input = [0u8; INPUT];
+    // A read that fails ends the input.
+    let size = io::read_full(0, &mut input);
+    let mut out = [0u8; OUTPUT];
+    let mut line = [0u8; LINE];
+    let said = draw_layer(&input[..size], &mut out, &mut line);
+    let first = said.length;
+    let second = said.line;
+    io::write_all(1, &out[..first]);
+    io::write_all(2, &line[..second]);
+}

@@ -1,0 +1,155 @@
+-- A drawing by tiles that is lent enough: its number, and its file where that is 0. Flat and solid are one case.
+use mathlib.Core.Path.{_≡_, refl, sym, ap, _∙_}
+use mathlib.Core.Bool.{Bool, true, false, _&&_, not}
+use mathlib.Core.List.{List, [], _++_}
+use Prim.Native.Nat.{ℕ, zero, suc, _+_, _*_, _≤_}
+use native.Mathlib.Omega.{arith}
+use lib.Dec.{eqb, ltb, leb}
+use lib.ListN.{length, take, drop, length-append}
+use lib.Seq.{take-at, length-take-le}
+use borrow.Author.Tests.{eqb-true, ne-eqb, eq-eqb, le-ltb, le-leb}
+use Rattle.rules.specs.Values.{pick, firstOf, when}
+use Rattle.rules.specs.Tapes.{readTape}
+use Rattle.rules.specs.Drawings as D
+use Rattle.rules.specs.Pictures.{stride, sidesOk, picture, pictureSize, head, bitmapFile, heightFile}
+use Rattle.rules.specs.Program.{fileOf}
+use Rattle.picture.specs.Shapes.{gridIn}
+use Rattle.picture.specs.declared.grid.Grid.{Grid}
+use Rattle.picture.proofs.Grids.{accepted}
+use Rattle.netpbm.proofs.FileLaws.{Sides, short-head, length-bitmap, length-heights}
+use Rattle.layers.specs.declared.Answer.{Answer}
+use Rattle.layers.specs.Says as Calls
+use Rattle.program.specs.declared.Drawn.{Drawn}
+use Rattle.program.specs.Says.{over, PictureFits, FileSays}
+
+-- The sides of a grid that is not refused.
+pub sides : (t : Bool) (d : Grid) → D.gridFault t (gridIn d t) ≡ 0 → Sides (d .width) (d .height)
+sides t d e =
+    let z = accepted d t e .sizes in
+    record {
+      width-least = z .width .least;
+      width-most = z .width .most;
+      height-least = z .height .least;
+      height-most = z .height .most;
+    }
+
+sides-ok : {w h : ℕ} → Sides w h → sidesOk w h ≡ true
+sides-ok {w} {h} s = rw (le-leb 1 w (s .width-least), le-leb w 512 (s .width-most), le-leb 1 h (s .height-least), le-leb h 512 (s .height-most))
+
+pub short-start : {w h : ℕ} (k : ℕ) → Sides w h → length (head k w h) ≤ 11
+short-start {w} {h} k s = short-head k w h (omega (arith, s .width-most)) (omega (arith, s .height-most))
+
+-- The number: 12 and 13 never come, since the picture and the work buffer are as long as they must be.
+last-zero : (a b c : ℕ) → (b ≡ 0 → c ≡ 0) → firstOf a (firstOf b c) ≡ firstOf a b
+last-zero zero zero c h = h refl
+last-zero zero (suc b) c h = refl
+last-zero (suc a) b c h = refl
+
+first-none : (a : ℕ) → firstOf a 0 ≡ a
+first-none zero = refl
+first-none (suc a) = refl
+
+pub record Lent (t : Bool) (d : Grid) (n m : ℕ) : Type 0 where
+  pub pixels : D.gridFault t (gridIn d t) ≡ 0 → n ≡ pictureSize t (gridIn d t)
+  pub work : D.workLimit ≤ m
+
+abbrev faultOf : Bool → List ℕ → Grid → ℕ
+faultOf t s d = firstOf (readTape s .number) (D.gridFault t (gridIn d t))
+
+tile-fault : (t : Bool) (s : List ℕ) (d : Grid) (n m : ℕ) → Lent t d n m
+    → Calls.tileFault t s (gridIn d t) n m ≡ faultOf t s d
+tile-fault t s d n m l =
+    let g = gridIn d t in
+    ap (λ b. firstOf (Calls.drawFault t s g n) (when b 13)) (le-ltb m D.workLimit (l .work))
+    ∙ first-none (Calls.drawFault t s g n)
+    ∙ last-zero (readTape s .number) (D.gridFault t g) _
+    (λ e. ap (λ b. when (not b) 12) (eq-eqb n (pictureSize t g) (l .pixels e)))
+
+grid-taken : (a b : ℕ) → firstOf a b ≡ 0 → b ≡ 0
+grid-taken zero b e = e
+grid-taken (suc a) b e = absurd (omega arith)
+
+-- The file of a picture, and of heights.
+abbrev pub fileIn : Bool → D.Grid → List ℕ → List ℕ
+fileIn t g p = pick t (heightFile (g .width) (g .height) p) (bitmapFile (g .width) (g .height) p)
+
+file-of : (t : Bool) (g : D.Grid) (h : List ℕ) → t ≡ D.solid g → fileIn t g (picture t g h) ≡ fileOf g h
+unfolding fileOf picture
+file-of true g h e = rw (sym e)
+file-of false g h e = rw (sym e)
+
+-- What a drawing by tiles leaves.
+module _ {t : Bool} {s : List ℕ} {d : Grid} {p p′ w w′ : List ℕ} {a : Answer} (f : Calls.TilesSay t s d p p′ w w′ a) (l : Lent t d (length p) (length w)) where
+  same : Calls.tileFault t s (gridIn d t) (length p) (length w) ≡ faultOf t s d
+  same = tile-fault t s d (length p) (length w) l
+
+  number : a .number ≡ faultOf t s d
+  number = f .answer .number ∙ same
+
+  pub taken : a .number ≡ 0 → D.gridFault t (gridIn d t) ≡ 0
+  taken e = grid-taken (readTape s .number) _ (sym number ∙ e)
+
+  pub layer-refused : (o : List ℕ) (r : Drawn) → (a .number ≡ 0 → ⊥) → r .number ≡ a .number → r .place ≡ a .place
+      → r .count ≡ 0 → r .length ≡ 0 → FileSays t s d o o r
+  layer-refused o r h e q c z =
+      let k : eqb (faultOf t s d) 0 ≡ false = ne-eqb (faultOf t s d) 0 (λ x. h (number ∙ x)) in
+      record {
+        number = e ∙ number;
+        place = rw same at (q ∙ f .answer .place);
+        count = rw k c;
+        size = rw k z;
+        out = rw k refl;
+      }
+
+  pub layer-done : (o o′ q x : List ℕ) (r : Drawn) → a .number ≡ 0 → r .number ≡ 0 → r .place ≡ 0 → r .count ≡ a .count
+      → q ≡ p′ → x ≡ fileIn t (gridIn d t) q → r .length ≡ length x → o′ ≡ x ++ drop (r .length) o → FileSays t s d o o′ r
+  layer-done o o′ q x r z e y c j i m u =
+      let g = gridIn d t in
+      let n : faultOf t s d ≡ 0 = sym number ∙ z in
+      let k = eq-eqb (faultOf t s d) 0 n in
+      let w = D.walked (readTape s .tape) g in
+      let pixels : p′ ≡ picture t g (w .heights)
+      = f .pixels ∙ ap (λ v. Calls.written v (picture t g (w .heights)) p) (same ∙ n) in
+      let file : x ≡ fileOf g (w .heights)
+      = i ∙ ap (fileIn t g) (j ∙ pixels) ∙ file-of t g (w .heights) (accepted d t (taken z) .kind) in
+      record {
+        number = e ∙ sym n;
+        place = y ∙ ap (λ v. pick (leb 5 v && leb v 9) (readTape s .place) 0) (sym n);
+        count = c ∙ f .answer .count ∙ ap (λ v. pick (eqb v 0) (w .clauses) 0) same;
+        size = rw k (m ∙ ap length file);
+        out = rw k (u ∙ ap (λ v. x ++ drop v o) m ∙ ap (λ v. over v o) file);
+      }
+
+-- The parts that are lent: of the picture, which comes back, and all of the work buffer.
+pub lent : {t : Bool} {d : Grid} {n r : ℕ} → PictureFits t d n r → (z w : List ℕ) → n ≡ length z → D.workLimit ≡ length w
+    → Lent t d (length (take r z)) (length w)
+lent {r = r} f z w e h =
+    record { pixels = λ i. length-take-le r z (omega (arith, f .most)) ∙ f .size i; work = omega arith }
+
+-- The first n of z were lent and came back as p.
+pub record Back (p z : List ℕ) (n : ℕ) : Type 0 where
+  pub room : n ≤ length (p ++ drop n z)
+  pub size : length (take n (p ++ drop n z)) ≡ n
+  pub same : take n (p ++ drop n z) ≡ p
+
+pub come-back : (p z : List ℕ) (n : ℕ) → length p ≡ n → Back p z n
+come-back p z n e =
+    let h : n ≤ length (p ++ drop n z) = simp length-append (omega arith) in
+    record { room = h; size = length-take-le n (p ++ drop n z) h; same = take-at p (drop n z) n e }
+
+-- What a call leaves that makes a file of a picture and has room for just that file.
+pub made : {w h n : ℕ} {q b x x′ : List ℕ} {a : Answer} → Sides w h → length q ≡ n → length x ≡ length b
+    → Calls.FileSays w h n q b x x′ a → x′ ≡ b
+made {w} {h} {n} {q} {b} {x} s e l f = f .out ∙ rw (sides-ok s, eq-eqb (length q) n e, eq-eqb (length x) (length b) l) refl
+
+-- The lengths of the files, as the code has them.
+module _ (d : Grid) (q : List ℕ) (m n : ℕ) (e : length q ≡ n) where
+  pub bitmap-length : n ≡ d .height * stride (d .width) → m ≡ length (head 52 (d .width) (d .height)) + n
+      → m ≡ length (bitmapFile (d .width) (d .height) q)
+  bitmap-length h k =
+      k ∙ ap (λ v. length (head 52 (d .width) (d .height)) + v) (sym e) ∙ sym (length-bitmap (d .width) (d .height) q (e ∙ h))
+
+  pub heights-length : m ≡ length (head 53 (d .width) (d .height)) + (6 + 2 * n)
+      → m ≡ length (heightFile (d .width) (d .height) q)
+  heights-length k =
+      k ∙ ap (λ v. length (head 53 (d .width) (d .height)) + (6 + 2 * v)) (sym e) ∙ sym (length-heights (d .width) (d .height) q)

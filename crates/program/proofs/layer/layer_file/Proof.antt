@@ -1,0 +1,100 @@
+-- 15, 16, then the flat or the solid drawing: the first check that holds is returned.
+use mathlib.Core.Path.{_≡_, sym, ap, _∙_}
+use mathlib.Core.Bool.{true, false}
+use Rattle.rules.specs.Program.{recordOk, tooLarge}
+use Rattle.picture.specs.Shapes.{gridIn}
+use Rattle.netpbm.proofs.FileLaws.{told-false, told-true}
+use Rattle.program.proofs.Inputs.{long-enough, no-record, solid-too-large, solid-sizes, flat-input, solid-input}
+use borrow.Author.Needs.{needs}
+use Rattle.program.proofs.layer.layer_file.Statement.{statement}
+use Rattle.program.proofs.layer.layer_file.Tie as tie
+
+-- The record passed; and the grid is none that is too large.
+ok : (c : tie.Else1) → recordOk (c .before .before .before .before .args .input .now) ≡ true
+ok c = told-true (c .before .record-ok .ensures) (c .if1 .left)
+
+drawable : (c : tie.Else2) → tooLarge (gridIn (c .before .before .read-grid .result) true) ≡ false
+drawable c = sym (c .before .too-large .ensures) ∙ c .if2 .left
+
+record-ok-requires : tie.Need-record-ok-requires
+record-ok-requires c κs = search needs
+
+refused-requires : tie.Need-refused-requires
+refused-requires c κs = search needs
+
+returns : tie.Need-returns
+returns c =
+    no-record _ _ _ (told-false (c .before .before .record-ok .ensures) (c .before .if1 .taken)) (c .refused .ensures)
+
+read-grid-requires : tie.Need-read-grid-requires
+read-grid-requires c κs = long-enough _ (ok c)
+
+too-large-requires : tie.Need-too-large-requires
+too-large-requires c κs = search needs
+
+refused-requires-2 : tie.Need-refused-requires-2
+refused-requires-2 c κs = search needs
+
+returns-2 : tie.Need-returns-2
+returns-2 c =
+    let t = c .before .before in
+    solid-too-large _ _ _ (ok (t .before .before))
+    (sym (ap tooLarge (t .before .read-grid .ensures)) ∙ sym (t .too-large .ensures) ∙ c .before .if2 .taken) (c .refused2 .ensures)
+
+sub-tape : tie.Need-sub-tape
+sub-tape c = long-enough _ (ok (c .before .before .before))
+
+part-tape-start : tie.Need-part-tape-start
+part-tape-start c = long-enough _ (ok (c .before .before .before))
+
+part-tape-end : tie.Need-part-tape-end
+part-tape-end c = search needs
+
+flat-file-requires : tie.Need-flat-file-requires
+flat-file-requires c κs = search needs
+
+same-length : tie.Need-same-length
+same-length c = search needs
+
+returns-3 : tie.Need-returns-3
+returns-3 c =
+    let e = c .before .before .before .before .before .before .before in
+    let g = e .before .before in
+    flat-input _ _ _ (g .read-grid .result) _ (g .read-grid .ensures) (ok (g .before)) (drawable e) (c .before .before .before .before .if3 .taken) (c .before .before .flat-file .ensures)
+
+solid-file-requires : tie.Need-solid-file-requires
+solid-file-requires c κs =
+    let e = c .before .before .before .before in
+    let g = e .before .before in
+    let z = solid-sizes (g .read-grid .result) (drawable e) (c .before .if3 .left) in
+    (z .0, (z .1, g .before .before .before .before .before .pre))
+
+same-length-2 : tie.Need-same-length-2
+same-length-2 c = search needs
+
+returns-4 : tie.Need-returns-4
+returns-4 c =
+    let e = c .before .before .before .before .before .before .before in
+    let g = e .before .before in
+    solid-input _ _ _ (g .read-grid .result) _ (g .read-grid .ensures) (ok (g .before)) (drawable e) (c .before .before .before .before .if3 .left) (c .before .before .solid-file .ensures)
+
+pub layer-file-spec : {M : Type 1} → statement M
+layer-file-spec =
+    tie.close
+    (tie.spec
+    record-ok-requires
+    refused-requires
+    returns
+    read-grid-requires
+    too-large-requires
+    refused-requires-2
+    returns-2
+    sub-tape
+    part-tape-start
+    part-tape-end
+    flat-file-requires
+    same-length
+    returns-3
+    solid-file-requires
+    same-length-2
+    returns-4)

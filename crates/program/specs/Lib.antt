@@ -1,0 +1,2 @@
+-- What the program and its parts promise.
+pub mod Says
