@@ -1,0 +1,59 @@
+//! One drawing of a part, by each way: the core's tiles, the plain walk, the core's full drawing.
+
+use crate::plain;
+use layers::raw;
+use layers::Grid;
+
+/// A flat or a solid drawing.
+#[derive(Clone, Copy, PartialEq, Eq)]
+pub enum Kind {
+    Flat,
+    Solid,
+}
+
+/// A way to draw.
+#[derive(Clone, Copy, PartialEq, Eq)]
+pub enum Way {
+    Tiles,
+    Plain,
+    Full,
+}
+
+/// The picture of either kind, in the core's form, and room to work in.
+#[derive(Clone)]
+pub struct Canvas {
+    pub kind: Kind,
+    pub grid: Grid,
+    pub bits: Vec<u8>,
+    pub heights: Vec<u16>,
+    work: Vec<u8>,
+}
+
+impl Canvas {
+    pub fn new(kind: Kind, grid: Grid) -> Canvas {
+        let (width, height) = (grid.width as usize, grid.height as usize);
+        let (bytes, numbers) = match kind {
+            Kind::Flat => (width.div_ceil(8) * height, 0),
+            Kind::Solid => (0, width * height),
+        };
+        // what the buffers held must not matter
+        Canvas { kind, grid, bits: vec![0xA5; bytes], heights: vec![0xA5A5; numbers], work: vec![0; raw::WORK] }
+    }
+
+    /// Draws the tape, and returns the count of clauses.
+    pub fn draw(&mut self, way: Way, tape: &[u8]) -> u64 {
+        let answer = match (self.kind, way) {
+            (Kind::Flat, Way::Plain) => return plain::tile_flat(tape, self.grid, &mut self.bits),
+            (Kind::Solid, Way::Plain) => return plain::tile_solid(tape, self.grid, &mut self.heights),
+            (Kind::Flat, Way::Tiles) => raw::tile_flat(tape, self.grid, &mut self.bits, &mut self.work),
+            (Kind::Solid, Way::Tiles) => raw::tile_solid(tape, self.grid, &mut self.heights, &mut self.work),
+            (Kind::Flat, Way::Full) => raw::draw_flat(tape, self.grid, &mut self.bits),
+            (Kind::Solid, Way::Full) => raw::draw_solid(tape, self.grid, &mut self.heights),
+        };
+        assert_eq!(answer.number, 0, "refused at clause {}", answer.place);
+        answer.count
+    }
+    pub fn same_picture(&self, other: &Canvas) -> bool {
+        self.bits == other.bits && self.heights == other.heights
+    }
+}

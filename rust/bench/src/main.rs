@@ -1,0 +1,87 @@
+//! `bench` prints a table of times: the core's tiles beside the plain walk and the full drawing.
+//! `bench tiles|plain|full flat|solid NAME` draws one part once, for a profiler.
+
+use bench::drawing::{Canvas, Kind, Way};
+use bench::measure::{in_turn, Time};
+use layers::Grid;
+use parts::Part;
+
+fn main() {
+    let words: Vec<String> = std::env::args().skip(1).collect();
+    match words.iter().map(String::as_str).collect::<Vec<_>>()[..] {
+        [] => table(),
+        [way, kind, name] => once(way, kind, name),
+        _ => panic!("usage: bench [tiles|plain|full flat|solid NAME]"),
+    }
+}
+
+fn once(way: &str, kind: &str, name: &str) {
+    let way = match way {
+        "tiles" => Way::Tiles,
+        "plain" => Way::Plain,
+        "full" => Way::Full,
+        other => panic!("no way to draw is named {other}"),
+    };
+    let part = parts::all().into_iter().find(|part| part.name == name).expect("a part's name");
+    let mut canvas = match kind {
+        "flat" => Canvas::new(Kind::Flat, part.flat),
+        "solid" => Canvas::new(Kind::Solid, part.solid),
+        other => panic!("no kind is named {other}"),
+    };
+    println!("{}", canvas.draw(way, &part.tape));
+}
+
+fn table() {
+    let runs = std::env::var("BENCH_RUNS").map_or(9, |text| text.parse().expect("BENCH_RUNS is a number"));
+    println!("Least of {runs} or more runs, tiles and plain in turn; 'of medians' is their ratio by the medians.");
+    println!("The full drawing is left out at 512³, where it has 134 million samples to run.\n");
+    println!("| part | clauses | drawing | tiles ms | plain ms | tiles / plain | of medians | full ms | full / tiles | counted clauses | tiles ns a clause | plain ns a clause |");
+    println!("|---|--:|---|--:|--:|--:|--:|--:|--:|--:|--:|--:|");
+    for part in parts::all() {
+        row(&part, "512²", Kind::Flat, part.flat, runs, true);
+        row(&part, "128³", Kind::Solid, part.solid, runs, true);
+        row(&part, "512³", Kind::Solid, part.solid_at(512), runs, false);
+    }
+}
+
+fn row(part: &Part, size: &str, kind: Kind, grid: Grid, runs: usize, in_full: bool) {
+    let mut canvas = Canvas::new(kind, grid);
+    let count = checked(part, &canvas, in_full);
+    let mut beside = canvas.clone();
+    let [tiles, plain] =
+        in_turn(runs, [&mut || canvas.draw(Way::Tiles, &part.tape), &mut || beside.draw(Way::Plain, &part.tape)]);
+    let full = in_full.then(|| in_turn(1, [&mut || canvas.draw(Way::Full, &part.tape)])[0]);
+    print_row(part, size, tiles, plain, full, count);
+}
+
+/// Draws by each way, and compares. Returns the count of the walk.
+fn checked(part: &Part, canvas: &Canvas, in_full: bool) -> u64 {
+    let (mut tiles, mut plain, mut full) = (canvas.clone(), canvas.clone(), canvas.clone());
+    let count = tiles.draw(Way::Tiles, &part.tape);
+    assert_eq!(count, plain.draw(Way::Plain, &part.tape), "the counts of {}", part.name);
+    assert!(tiles.same_picture(&plain), "the pictures of {}", part.name);
+    if in_full {
+        full.draw(Way::Full, &part.tape);
+        assert!(tiles.same_picture(&full), "the full drawing of {}", part.name);
+    }
+    count
+}
+
+fn print_row(part: &Part, size: &str, tiles: Time, plain: Time, full: Option<Time>, count: u64) {
+    let full_times = full.map_or("| |".into(), |full| format!("{:.1} | {:.1} |", full.least, full.least / tiles.least));
+    let per_clause = |time: Time| time.least * 1e6 / count as f64;
+    println!(
+        "| {} | {} | {} | {:.2} | {:.2} | {:.2} | {:.2} | {} {} | {:.2} | {:.2} |",
+        part.name,
+        part.clauses(),
+        size,
+        tiles.least,
+        plain.least,
+        tiles.least / plain.least,
+        tiles.median / plain.median,
+        full_times,
+        count,
+        per_clause(tiles),
+        per_clause(plain),
+    );
+}

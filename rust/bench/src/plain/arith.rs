@@ -1,0 +1,89 @@
+//! Fixed-point arithmetic, on values and over ranges.
+
+const M: i64 = 2_147_483_647;
+
+fn clamp(v: i64) -> i32 {
+    v.clamp(-M, M) as i32
+}
+
+pub fn add(a: i32, b: i32) -> i32 {
+    a.saturating_add(b).max(-i32::MAX)
+}
+
+pub fn subtract(a: i32, b: i32) -> i32 {
+    a.saturating_sub(b).max(-i32::MAX)
+}
+
+fn product(a: i32, b: i32) -> i64 {
+    a as i64 * b as i64
+}
+
+pub fn multiply(a: i32, b: i32) -> i32 {
+    clamp(product(a, b) >> 16)
+}
+
+/// The number under the root is below 2^47, so a root that is not whole lies further from the next whole number than
+/// rounding to 53 bits can move it: the whole part needs no settling.
+pub fn root(a: i32) -> i32 {
+    (a.max(0) as f64 * 65536.0).sqrt() as u32 as i32
+}
+
+/// A range of values, by its ends.
+#[derive(Clone, Copy)]
+pub struct Span {
+    pub low: i32,
+    pub high: i32,
+}
+
+impl Span {
+    pub fn new(low: i32, high: i32) -> Span {
+        Span { low, high }
+    }
+
+    pub fn negate(self) -> Span {
+        Span::new(-self.high, -self.low)
+    }
+
+    pub fn absolute(self) -> Span {
+        let (first, last) = (self.low.abs(), self.high.abs());
+        let holds_zero = self.low <= 0 && self.high >= 0;
+        Span::new(if holds_zero { 0 } else { first.min(last) }, first.max(last))
+    }
+
+    pub fn square(self) -> Span {
+        let size = self.absolute();
+        Span::new(multiply(size.low, size.low), multiply(size.high, size.high))
+    }
+
+    pub fn root(self) -> Span {
+        Span::new(root(self.low), root(self.high))
+    }
+
+    pub fn add(self, b: Span) -> Span {
+        Span::new(add(self.low, b.low), add(self.high, b.high))
+    }
+
+    pub fn subtract(self, b: Span) -> Span {
+        Span::new(subtract(self.low, b.high), subtract(self.high, b.low))
+    }
+
+    /// Rounding and clamping keep the order, so that two of the four products are rounded.
+    pub fn multiply(self, b: Span) -> Span {
+        let (p, q) = (product(self.low, b.low), product(self.low, b.high));
+        let (s, t) = (product(self.high, b.low), product(self.high, b.high));
+        Span::new(clamp(p.min(q).min(s.min(t)) >> 16), clamp(p.max(q).max(s.max(t)) >> 16))
+    }
+
+    pub fn minimum(self, b: Span) -> Span {
+        Span::new(self.low.min(b.low), self.high.min(b.high))
+    }
+
+    pub fn maximum(self, b: Span) -> Span {
+        Span::new(self.low.max(b.low), self.high.max(b.high))
+    }
+
+    /// Whether every number of this range is below every one of the other.
+    pub fn below(self, b: Span) -> bool {
+        self.high < b.low
+    }
+}

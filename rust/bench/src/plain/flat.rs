@@ -1,0 +1,104 @@
+//! The flat drawing by tiles.
+
+use super::arith::Span;
+use super::run::{run_ranges, run_values, Slots};
+use super::shorten::shorten;
+use super::word::words;
+use super::{axis, sample, Choices, Level, CLAUSES};
+use layers::Grid;
+
+/// Draws into the picture, whatever it held, and returns the walk's count.
+pub fn tile_flat(tape: &[u8], grid: Grid, picture: &mut [u8]) -> u64 {
+    picture.fill(0);
+    let row = (grid.width as usize).div_ceil(8);
+    let mut walk = Walk { grid, row, picture, choices: [0; CLAUSES], ranges: Slots::new(), values: [0; 64], count: 0 };
+    let all = Region { x: 0, xend: grid.width, y: 0, yend: grid.height };
+    walk.visit_children(&words(tape), all, 64, &mut [[0; CLAUSES]; 2]);
+    walk.count
+}
+
+/// First index and past the last one on each axis.
+#[derive(Clone, Copy)]
+struct Region {
+    x: u32,
+    xend: u32,
+    y: u32,
+    yend: u32,
+}
+
+struct Walk<'a> {
+    grid: Grid,
+    /// The bytes of one row of the picture.
+    row: usize,
+    picture: &'a mut [u8],
+    choices: Choices,
+    ranges: Slots,
+    values: [i32; 64],
+    count: u64,
+}
+
+impl Walk<'_> {
+    fn visit_children(&mut self, code: &[u64], parent: Region, side: u32, levels: &mut [Level]) {
+        for y in (parent.y..parent.yend).step_by(side as usize) {
+            for x in (parent.x..parent.xend).step_by(side as usize) {
+                let region = Region { x, xend: self.grid.width.min(x + side), y, yend: self.grid.height.min(y + side) };
+                self.visit(code, region, levels);
+            }
+        }
+    }
+
+    fn visit(&mut self, code: &[u64], region: Region, levels: &mut [Level]) {
+        self.count += code.len() as u64;
+        let range = run_ranges(code, self.bounds(region), &mut self.ranges, &mut self.choices);
+        if range.high < 0 {
+            self.fill(region);
+        } else if range.low < 0 {
+            let (next, below) = levels.split_first_mut().expect("a level for every side");
+            let start = shorten(code, &self.choices, next);
+            if below.is_empty() {
+                self.visit_samples(&next[start..], region);
+            } else {
+                self.visit_children(&next[start..], region, 8, below);
+            }
+        }
+    }
+
+    fn bounds(&self, region: Region) -> [Span; 3] {
+        let grid = &self.grid;
+        [
+            axis(grid.xfirst, grid.xstep, region.x, region.xend),
+            axis(grid.yfirst, grid.ystep, region.y, region.yend),
+            Span::new(grid.zfirst, grid.zfirst),
+        ]
+    }
+
+    /// A region of side 8 is one byte in each row of the picture.
+    fn visit_samples(&mut self, code: &[u64], region: Region) {
+        let grid = self.grid;
+        for y in region.y..region.yend {
+            let mut byte = 0;
+            for x in region.x..region.xend {
+                let at = [sample(grid.xfirst, grid.xstep, x), sample(grid.yfirst, grid.ystep, y), grid.zfirst];
+                if run_values(code, at, &mut self.values) < 0 {
+                    byte |= 0x80 >> (x - region.x);
+                }
+            }
+            self.picture[y as usize * self.row + region.x as usize / 8] |= byte;
+        }
+        self.count += (region.xend - region.x) as u64 * (region.yend - region.y) as u64 * code.len() as u64;
+    }
+
+    /// A region starts at a whole byte.
+    fn fill(&mut self, region: Region) {
+        let first = region.x as usize / 8;
+        let whole = region.xend as usize / 8;
+        let spare = region.xend % 8;
+        for y in region.y..region.yend {
+            let row = &mut self.picture[y as usize * self.row..][..self.row];
+            row[first..whole].fill(0xFF);
+            if spare > 0 {
+                row[whole] |= !(0xFF >> spare);
+            }
+        }
+    }
+}
