@@ -7,11 +7,11 @@ fn clamp(v: i64) -> i32 {
 }
 
 pub fn add(a: i32, b: i32) -> i32 {
-    a.saturating_add(b).max(-i32::MAX)
+    clamp(a as i64 + b as i64)
 }
 
 pub fn subtract(a: i32, b: i32) -> i32 {
-    a.saturating_sub(b).max(-i32::MAX)
+    clamp(a as i64 - b as i64)
 }
 
 fn product(a: i32, b: i32) -> i64 {
@@ -23,9 +23,10 @@ pub fn multiply(a: i32, b: i32) -> i32 {
 }
 
 /// The number under the root is below 2^47, so a root that is not whole lies further from the next whole number than
-/// rounding to 53 bits can move it: the whole part needs no settling.
+/// rounding to 53 bits can move it: the whole part needs no settling. By way of i64, since the machine's own conversion to
+/// 64 bits leaves less to be done for numbers that don't fit.
 pub fn root(a: i32) -> i32 {
-    (a.max(0) as f64 * 65536.0).sqrt() as u32 as i32
+    (a.max(0) as f64 * 65536.0).sqrt() as i64 as i32
 }
 
 /// A range of values, by its ends.
