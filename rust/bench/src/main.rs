@@ -2,7 +2,7 @@
 //! `bench tiles|plain|full flat|solid NAME` draws one part once, for a profiler.
 
 use bench::drawing::{Canvas, Kind, Way};
-use bench::measure::{in_turn, Time};
+use bench::measure::{in_turn, Times};
 use layers::Grid;
 use parts::Part;
 
@@ -33,9 +33,11 @@ fn once(way: &str, kind: &str, name: &str) {
 
 fn table() {
     let runs = std::env::var("BENCH_RUNS").map_or(9, |text| text.parse().expect("BENCH_RUNS is a number"));
-    println!("Least of {runs} or more runs, tiles and plain in turn; 'of medians' is their ratio by the medians.");
+    println!(
+        "Least of {runs} or more runs, tiles and plain in turn; 'in turn' is the median of the ratios in each turn."
+    );
     println!("The full drawing is left out at 512³, where it has 134 million samples to run.\n");
-    println!("| part | clauses | drawing | tiles ms | plain ms | tiles / plain | of medians | full ms | full / tiles | counted clauses | tiles ns a clause | plain ns a clause |");
+    println!("| part | clauses | drawing | tiles ms | plain ms | tiles / plain | in turn | full ms | full / tiles | counted clauses | tiles ns a clause | plain ns a clause |");
     println!("|---|--:|---|--:|--:|--:|--:|--:|--:|--:|--:|--:|");
     for part in parts::all() {
         row(&part, "512²", Kind::Flat, part.flat, runs, true);
@@ -50,8 +52,8 @@ fn row(part: &Part, size: &str, kind: Kind, grid: Grid, runs: usize, in_full: bo
     let mut beside = canvas.clone();
     let [tiles, plain] =
         in_turn(runs, [&mut || canvas.draw(Way::Tiles, &part.tape), &mut || beside.draw(Way::Plain, &part.tape)]);
-    let full = in_full.then(|| in_turn(1, [&mut || canvas.draw(Way::Full, &part.tape)])[0]);
-    print_row(part, size, tiles, plain, full, count);
+    let full = in_full.then(|| in_turn(1, [&mut || canvas.draw(Way::Full, &part.tape)])[0].least());
+    print_row(part, size, [tiles, plain], full, count);
 }
 
 /// Draws by each way, and compares. Returns the count of the walk.
@@ -67,21 +69,17 @@ fn checked(part: &Part, canvas: &Canvas, in_full: bool) -> u64 {
     count
 }
 
-fn print_row(part: &Part, size: &str, tiles: Time, plain: Time, full: Option<Time>, count: u64) {
-    let full_times = full.map_or("| |".into(), |full| format!("{:.1} | {:.1} |", full.least, full.least / tiles.least));
-    let per_clause = |time: Time| time.least * 1e6 / count as f64;
+fn print_row(part: &Part, size: &str, [tiles, plain]: [Times; 2], full: Option<f64>, count: u64) {
+    let (tiles_ms, plain_ms) = (tiles.least(), plain.least());
+    let full_times = full.map_or("| |".into(), |full| format!("{full:.1} | {:.1} |", full / tiles_ms));
+    let per_clause = |ms: f64| ms * 1e6 / count as f64;
     println!(
-        "| {} | {} | {} | {:.2} | {:.2} | {:.2} | {:.2} | {} {} | {:.2} | {:.2} |",
+        "| {} | {} | {size} | {tiles_ms:.2} | {plain_ms:.2} | {:.2} | {:.2} | {full_times} {count} | {:.2} | {:.2} |",
         part.name,
         part.clauses(),
-        size,
-        tiles.least,
-        plain.least,
-        tiles.least / plain.least,
-        tiles.median / plain.median,
-        full_times,
-        count,
-        per_clause(tiles),
-        per_clause(plain),
+        tiles_ms / plain_ms,
+        tiles.over(&plain),
+        per_clause(tiles_ms),
+        per_clause(plain_ms),
     );
 }

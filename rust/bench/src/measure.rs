@@ -3,32 +3,35 @@
 use std::hint::black_box;
 use std::time::{Duration, Instant};
 
-/// The least and the median of several runs, in milliseconds.
-#[derive(Clone, Copy)]
-pub struct Time {
-    pub least: f64,
-    pub median: f64,
+/// The times of one task, in milliseconds, in the order of its runs.
+pub struct Times(Vec<f64>);
+
+impl Times {
+    pub fn least(&self) -> f64 {
+        self.0.iter().copied().fold(f64::INFINITY, f64::min)
+    }
+
+    /// The median of the ratios to another task's time in the same turn, which a busy machine slows alike.
+    pub fn over(&self, other: &Times) -> f64 {
+        let mut ratios: Vec<f64> = self.0.iter().zip(&other.0).map(|(a, b)| a / b).collect();
+        ratios.sort_by(f64::total_cmp);
+        ratios[ratios.len() / 2]
+    }
 }
 
 /// How long short tasks are repeated beyond their runs: the more often, the likelier one is not disturbed.
 const AT_LEAST: Duration = Duration::from_millis(400);
 
-/// Runs the tasks in turn, `runs` times each or more often, and returns the time of each.
-pub fn in_turn<const N: usize>(runs: usize, mut tasks: [&mut dyn FnMut() -> u64; N]) -> [Time; N] {
-    let mut times: [Vec<Duration>; N] = std::array::from_fn(|_| Vec::new());
+/// Runs the tasks in turn, `runs` times each or more often, and returns the times of each.
+pub fn in_turn<const N: usize>(runs: usize, mut tasks: [&mut dyn FnMut() -> u64; N]) -> [Times; N] {
+    let mut times = std::array::from_fn(|_| Times(Vec::new()));
     let begin = Instant::now();
-    while times[0].len() < runs.max(1) || begin.elapsed() < AT_LEAST {
+    while times[0].0.len() < runs.max(1) || begin.elapsed() < AT_LEAST {
         for (task, times) in tasks.iter_mut().zip(&mut times) {
             let start = Instant::now();
             black_box(task());
-            times.push(start.elapsed());
+            times.0.push(start.elapsed().as_secs_f64() * 1e3);
         }
     }
-    times.map(summary)
-}
-
-fn summary(mut times: Vec<Duration>) -> Time {
-    times.sort();
-    let milliseconds = |time: Duration| time.as_secs_f64() * 1e3;
-    Time { least: milliseconds(times[0]), median: milliseconds(times[times.len() / 2]) }
+    times
 }
