@@ -2,6 +2,7 @@
 //! than most of the tests.
 
 mod differential;
+mod examples;
 mod faults;
 mod figures;
 mod program;
