@@ -72,8 +72,10 @@ part-short-end c = search needs
 sample-rows-requires : tie.Need-sample-rows-requires
 sample-rows-requires c κs =
     let p = c .before .before .before .before .before .before .before .before .before .before .before .before .before .before .before .before .before .before .before .before .before .before .pre in
-    let k = c .before .before .before .before .before .before .before .before .before .before .before .before .look .kept in
-    (given-cut (given-on _ (p .0) (k .1 .1 .1 .1 .1 .1 .0)) (undone (c .before .before .before) .cut), block (c .before .before .before .before .before .before .before .before .before .before .before .before .before .before .before .before))
+    let l = c .before .before .before .before .before .before .before .before .before .before .before .before .look in
+    let own = given-on (l .last .1 .1 .1 .1 .1 .1 .0) (p .0) (l .kept .1 .1 .1 .1 .1 .1 .0) in
+    let cut = given-cut own (undone (c .before .before .before) .cut) in
+    (search (cut, own), block (c .before .before .before .before .before .before .before .before .before .before .before .before .before .before .before .before))
 
 add-result : tie.Need-add-result
 add-result c = search needs

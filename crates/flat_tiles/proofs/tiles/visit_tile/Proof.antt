@@ -72,8 +72,10 @@ part-short-end c = search needs
 eight-rows-requires : tie.Need-eight-rows-requires
 eight-rows-requires c κs =
     let p = c .before .before .before .before .before .before .before .before .before .before .before .before .before .before .before .before .before .before .before .before .before .before .before .before .before .pre in
-    let k = c .before .before .before .before .before .before .before .before .before .before .before .before .before .before .look .kept in
-    (given-cut (given-on _ (p .0) (k .1 .1 .1 .1 .1 .1 .0)) (undone (c .before .before .before .before .before) .cut), (block (c .before .before .before .before .before .before .before .before .before .before .before .before .before .before .before .before .before .before), (omega (arith, p .1 .1, k .1 .1 .1 .1 .1 .1 .1 .0), omega (arith, p .1 .1))))
+    let l = c .before .before .before .before .before .before .before .before .before .before .before .before .before .before .look in
+    let own = given-on (l .last .1 .1 .1 .1 .1 .1 .0) (p .0) (l .kept .1 .1 .1 .1 .1 .1 .0) in
+    let cut = given-cut own (undone (c .before .before .before .before .before) .cut) in
+    (search (cut, own), (block (c .before .before .before .before .before .before .before .before .before .before .before .before .before .before .before .before .before .before), (omega (arith, p .1 .1, l .kept .1 .1 .1 .1 .1 .1 .1 .0), omega (arith, p .1 .1))))
 
 add-result : tie.Need-add-result
 add-result c = omega (arith, c .before .before .before .before .before .before .before .before .before .before .before .before .before .before .before .before .before .before .before .before .before .before .before .before .before .before .before .before .before .before .before .before .pre .0 .few, c .before .before .before .before .before .before .eight-rows .ensures .1)
