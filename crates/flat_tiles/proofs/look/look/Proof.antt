@@ -45,7 +45,7 @@ fill-rect-requires : tie.Need-fill-rect-requires
 fill-rect-requires c κs =
     let p = c .before .before .before .before .before .before .before .before .before .before .before .before .before .before .before .before .pre in
     let k = p .1 .0 in
-    (pixels-in _ _ _ (p .0) (k .start) (k .part .some-column) (k .part .columns) (k .part .rows), omega (arith, k .part .some-row))
+    (pixels-in _ _ _ (p .0) (k .start) (k .part .some-column) (k .part .columns) (omega (arith, k .part .rows)), omega (arith, k .part .some-row))
 
 enum-told-2 : tie.Need-enum-told-2
 enum-told-2 c = search needs

@@ -1,4 +1,3 @@
-use Prim.Native.Nat.{_-_}
 -- Each axis at its first and its last index; the one z is the grid's.
 use native.Mathlib.Omega.{arith}
 use mir.Facts.{toZ-ofZ}
@@ -12,7 +11,7 @@ sample-requires : tie.Need-sample-requires
 sample-requires c κs =
     let s = c .before .before in
     let f : InWords (s .args .grid) = in-words (c .struct-told2 .given) in
-    axis-asked _ _ _ (f .xfirst) (f .xstep) (grid-taken (s .pre .0) .x-value (s .args .x) (omega arith))
+    axis-asked _ _ _ (f .xfirst) (f .xstep) (grid-taken (s .pre .0) .x-value _ (omega arith))
 
 sub-sample : tie.Need-sub-sample
 sub-sample c = search needs
@@ -21,13 +20,13 @@ sample-requires-2 : tie.Need-sample-requires-2
 sample-requires-2 c κs =
     let s = c .before .before .before .before .before in
     let f : InWords (s .args .grid) = in-words (c .struct-told4 .given) in
-    axis-asked _ _ _ (f .xfirst) (f .xstep) (grid-taken (s .pre .0) .x-value (s .args .xend - 1) (omega arith))
+    axis-asked _ _ _ (f .xfirst) (f .xstep) (grid-taken (s .pre .0) .x-value _ (omega arith))
 
 sample-requires-3 : tie.Need-sample-requires-3
 sample-requires-3 c κs =
     let s = c .before .before .before .before .before .before .before .before in
     let f : InWords (s .args .grid) = in-words (c .struct-told6 .given) in
-    axis-asked _ _ _ (f .yfirst) (f .ystep) (grid-taken (s .pre .0) .y-value (s .args .y) (omega arith))
+    axis-asked _ _ _ (f .yfirst) (f .ystep) (grid-taken (s .pre .0) .y-value _ (omega arith))
 
 sub-sample-2 : tie.Need-sub-sample-2
 sub-sample-2 c = search needs
@@ -36,7 +35,7 @@ sample-requires-4 : tie.Need-sample-requires-4
 sample-requires-4 c κs =
     let s = c .before .before .before .before .before .before .before .before .before .before .before in
     let f : InWords (s .args .grid) = in-words (c .struct-told8 .given) in
-    axis-asked _ _ _ (f .yfirst) (f .ystep) (grid-taken (s .pre .0) .y-value (s .args .yend - 1) (omega arith))
+    axis-asked _ _ _ (f .yfirst) (f .ystep) (grid-taken (s .pre .0) .y-value _ (omega arith))
 
 returns : tie.Need-returns
 returns c =

@@ -22,14 +22,15 @@ tile-rows-requires : tie.Need-tile-rows-requires
 tile-rows-requires c κs =
     let s = c .before .before .before .before .before .before .before .before .before .before .before in
     let p = s .pre in
-    let g = s .args .grid in (
+    let g = s .args .grid in
+    let k = c .before .before .before .before .before .before .clear .kept .0 in (
       record {
         words = p .0;
         few = few-words (p .0);
         good = good-grid g (p .1 .0);
-        size = c .before .before .before .before .before .before .clear .kept .0 ∙ p .1 .1 .0;
+        size = omega (arith, k, p .1 .1 .0);
       },
-      (accepted g false (p .1 .0) .sizes .width .least, (p .1 .1 .1, (omega arith, omega arith))),
+      (accepted g false (p .1 .0) .sizes .width .least, (omega (arith, k, p .1 .1 .1), (omega arith, omega arith))),
     )
 
 same-length : tie.Need-same-length
