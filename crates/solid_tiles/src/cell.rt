@@ -80,14 +80,8 @@ pub fn is_hidden(grid: Grid, c: Cell, picture: &[u16]) -> bool
     let rows = (c.yend - c.y) as usize;
     let from = (c.y * grid.width + c.x) as usize;
     let wide = (c.xend - c.x) as usize;
-    rows_high(
-        picture,
-        rows,
-        grid.width as usize,
-        from,
-        wide,
-        c.zend as u16,
-    )
+    let top = c.zend as u16;
+    rows_high(picture, rows, grid.width as usize, from, wide, top)
 }
 
 pub fn fill(grid: Grid, c: Cell, picture: &mut [u16])

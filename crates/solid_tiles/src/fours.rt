@@ -35,7 +35,8 @@ fn visit_four(
     match seen {
         Seen::Done(count) => count,
         Seen::Open(start) => {
-            let inside = sample_layers(&third[start..], grid, cell, picture);
+            let short = &third[start..];
+            let inside = sample_layers(short, grid, cell, picture);
             code.len() as u64 + inside
         }
     }

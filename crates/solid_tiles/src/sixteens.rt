@@ -36,7 +36,8 @@ fn visit_sixteen(
     match seen {
         Seen::Done(count) => count,
         Seen::Open(start) => {
-            let inside = four_layers(&second[start..], grid, cell, picture, choices, third);
+            let short = &second[start..];
+            let inside = four_layers(short, grid, cell, picture, choices, third);
             code.len() as u64 + inside
         }
     }

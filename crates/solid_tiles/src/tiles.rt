@@ -38,15 +38,8 @@ fn visit_tile(
     match seen {
         Seen::Done(count) => count,
         Seen::Open(start) => {
-            let inside = sixteen_layers(
-                &first[start..],
-                grid,
-                cell,
-                picture,
-                choices,
-                second,
-                third,
-            );
+            let short = &first[start..];
+            let inside = sixteen_layers(short, grid, cell, picture, choices, second, third);
             code.len() as u64 + inside
         }
     }

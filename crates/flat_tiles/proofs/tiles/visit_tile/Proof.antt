@@ -69,6 +69,7 @@ part-short-start c = undone (c .before) .cut .start
 part-short-end : tie.Need-part-short-end
 part-short-end c = search needs
 
+-- Both tapes are sound; which of them is lent shows in what is drawn and counted.
 eight-rows-requires : tie.Need-eight-rows-requires
 eight-rows-requires c κs =
     let p = c .before .before .before .before .before .before .before .before .before .before .before .before .before .before .before .before .before .before .before .before .before .before .before .before .before .pre in

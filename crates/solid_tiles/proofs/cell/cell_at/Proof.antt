@@ -26,12 +26,13 @@ lesser-requires-3 c κs = search needs
 
 returns : tie.Need-returns
 returns c =
+    let a = c .before .before .before .args in
     let p = c .before .before .before .pre in
     record {
       ok = record {
-        xs = ends _ _ _ _ (c .before .before .lesser .ensures) (p .1 .0 .x-in) (p .1 .1 .0);
-        ys = ends _ _ _ _ (c .before .lesser2 .ensures) (p .1 .0 .y-in) (p .1 .1 .0);
-        zs = ends _ _ _ _ (c .lesser3 .ensures) (p .1 .0 .z-in) (p .1 .1 .0);
+        xs = ends (a .grid .width) _ (a .side) _ (c .before .before .lesser .ensures) (p .1 .0 .x-in) (p .1 .1 .0);
+        ys = ends (a .grid .height) _ (a .side) _ (c .before .lesser2 .ensures) (p .1 .0 .y-in) (p .1 .1 .0);
+        zs = ends (a .grid .depth) _ (a .side) _ (c .lesser3 .ensures) (p .1 .0 .z-in) (p .1 .1 .0);
       };
       same = refl;
     }

@@ -26,15 +26,15 @@ sub-wide c = search needs
 cast-wide : tie.Need-cast-wide
 cast-wide c = search needs
 
-cast-rows-high : tie.Need-cast-rows-high
-cast-rows-high c = search needs
-
-cast-rows-high-2 : tie.Need-cast-rows-high-2
-cast-rows-high-2 c =
-    let s = c .before .before .before .before .before .before .before .before in
+cast-top : tie.Need-cast-top
+cast-top c =
+    let s = c .before .before .before .before .before .before .before in
     let d = small _ (s .pre .0 .fault) in
     let z = s .pre .1 .zs in
     omega arith
+
+cast-rows-high : tie.Need-cast-rows-high
+cast-rows-high c = search needs
 
 rows-high-requires : tie.Need-rows-high-requires
 rows-high-requires c κs =
@@ -57,7 +57,7 @@ is-hidden-spec =
     cast-from
     sub-wide
     cast-wide
+    cast-top
     cast-rows-high
-    cast-rows-high-2
     rows-high-requires
     returns)

@@ -41,30 +41,32 @@ enum-known-seen c = search needs
 enum-known-seen-2 : tie.Need-enum-known-seen-2
 enum-known-seen-2 c = search needs
 
-mul-sample-layers : tie.Need-mul-sample-layers
-mul-sample-layers c =
+mul-short : tie.Need-mul-short
+mul-short c =
     let o = opened c .cut .start in
     let j = c .before .before .before .before .before .before .before .before .before in
     let g = begun j .good in
     omega (arith, j .look .kept .1 .1 .1 .1 .1 .0)
 
-sub-sample-layers : tie.Need-sub-sample-layers
-sub-sample-layers c = opened c .cut .start
+sub-short : tie.Need-sub-short
+sub-short c = opened c .cut .start
 
-part-sample-layers-start : tie.Need-part-sample-layers-start
-part-sample-layers-start c = opened (c .before) .cut .start
+part-short-start : tie.Need-part-short-start
+part-short-start c = opened (c .before) .cut .start
 
-part-sample-layers-end : tie.Need-part-sample-layers-end
-part-sample-layers-end c = search needs
+part-short-end : tie.Need-part-short-end
+part-short-end c = search needs
 
+-- Both tapes are sound; which of them is lent shows in what is drawn and counted.
 sample-layers-requires : tie.Need-sample-layers-requires
 sample-layers-requires c κs =
     let t = c .before .before .before in
     let j = t .before .before .before .before .before .before .before .before .before in
     let s = begun j in
     let k = made j in
-    let r = s .pre .1 .1 .1 in (
-      open-sound 1 4 k (s .pre .1 .0 .fault) (s .pre .0) (opened t),
+    let r = s .pre .1 .1 .1 in
+    let short = open-sound 1 4 k (s .pre .1 .0 .fault) (s .pre .0) (opened t) in (
+      search (short, s .pre .0),
       (ready-again (s .pre .1 .0) (j .look .kept .1 .1 .1 .0), (k .ok, ap (λ (q : Region). q .long) (k .same))),
     )
 
@@ -111,10 +113,10 @@ visit-four-spec =
     look-requires
     enum-known-seen
     enum-known-seen-2
-    mul-sample-layers
-    sub-sample-layers
-    part-sample-layers-start
-    part-sample-layers-end
+    mul-short
+    sub-short
+    part-short-start
+    part-short-end
     sample-layers-requires
     add-result
     same-length

@@ -40,30 +40,32 @@ enum-known-seen c = search needs
 enum-known-seen-2 : tie.Need-enum-known-seen-2
 enum-known-seen-2 c = search needs
 
-mul-four-layers : tie.Need-mul-four-layers
-mul-four-layers c =
+mul-short : tie.Need-mul-short
+mul-short c =
     let o = opened c .cut .start in
     let j = c .before .before .before .before .before .before .before .before .before in
     let g = begun j .good in
     omega (arith, j .look .kept .1 .1 .1 .1 .1 .0)
 
-sub-four-layers : tie.Need-sub-four-layers
-sub-four-layers c = opened c .cut .start
+sub-short : tie.Need-sub-short
+sub-short c = opened c .cut .start
 
-part-four-layers-start : tie.Need-part-four-layers-start
-part-four-layers-start c = opened (c .before) .cut .start
+part-short-start : tie.Need-part-short-start
+part-short-start c = opened (c .before) .cut .start
 
-part-four-layers-end : tie.Need-part-four-layers-end
-part-four-layers-end c = search needs
+part-short-end : tie.Need-part-short-end
+part-short-end c = search needs
 
+-- Both tapes are sound; which of them is lent shows in what is drawn and counted.
 four-layers-requires : tie.Need-four-layers-requires
 four-layers-requires c κs =
     let t = c .before .before .before .before .before in
     let j = t .before .before .before .before .before .before .before .before .before in
     let s = begun j in
     let k = made j in
-    let r = s .pre .1 .1 .1 in (
-      open-sound 4 4 k (s .pre .1 .0 .fault) (s .pre .0) (opened t),
+    let r = s .pre .1 .1 .1 in
+    let short = open-sound 4 4 k (s .pre .1 .0 .fault) (s .pre .0) (opened t) in (
+      search (short, s .pre .0),
       (ready-again (s .pre .1 .0) (j .look .kept .1 .1 .1 .0), (k .ok, (ap (λ (q : Region). q .long) (k .same), (omega arith, omega arith)))),
     )
 
@@ -116,10 +118,10 @@ visit-sixteen-spec =
     look-requires
     enum-known-seen
     enum-known-seen-2
-    mul-four-layers
-    sub-four-layers
-    part-four-layers-start
-    part-four-layers-end
+    mul-short
+    sub-short
+    part-short-start
+    part-short-end
     four-layers-requires
     add-result
     same-length

@@ -40,30 +40,32 @@ enum-known-seen c = search needs
 enum-known-seen-2 : tie.Need-enum-known-seen-2
 enum-known-seen-2 c = search needs
 
-mul-sixteen-layers : tie.Need-mul-sixteen-layers
-mul-sixteen-layers c =
+mul-short : tie.Need-mul-short
+mul-short c =
     let o = opened c .cut .start in
     let j = c .before .before .before .before .before .before .before .before .before in
     let g = begun j .good in
     omega (arith, j .look .kept .1 .1 .1 .1 .1 .0)
 
-sub-sixteen-layers : tie.Need-sub-sixteen-layers
-sub-sixteen-layers c = opened c .cut .start
+sub-short : tie.Need-sub-short
+sub-short c = opened c .cut .start
 
-part-sixteen-layers-start : tie.Need-part-sixteen-layers-start
-part-sixteen-layers-start c = opened (c .before) .cut .start
+part-short-start : tie.Need-part-short-start
+part-short-start c = opened (c .before) .cut .start
 
-part-sixteen-layers-end : tie.Need-part-sixteen-layers-end
-part-sixteen-layers-end c = search needs
+part-short-end : tie.Need-part-short-end
+part-short-end c = search needs
 
+-- Both tapes are sound; which of them is lent shows in what is drawn and counted.
 sixteen-layers-requires : tie.Need-sixteen-layers-requires
 sixteen-layers-requires c κs =
     let t = c .before .before .before .before .before .before in
     let j = t .before .before .before .before .before .before .before .before .before in
     let s = begun j in
     let k = made j in
-    let r = s .pre .1 .1 .1 in (
-      open-sound 16 4 k (s .pre .1 .0 .fault) (s .pre .0) (opened t),
+    let r = s .pre .1 .1 .1 in
+    let short = open-sound 16 4 k (s .pre .1 .0 .fault) (s .pre .0) (opened t) in (
+      search (short, s .pre .0),
       (ready-again (s .pre .1 .0) (j .look .kept .1 .1 .1 .0), (k .ok, (ap (λ (q : Region). q .long) (k .same), (omega arith, omega arith, omega arith)))),
     )
 
@@ -119,10 +121,10 @@ visit-tile-spec =
     look-requires
     enum-known-seen
     enum-known-seen-2
-    mul-sixteen-layers
-    sub-sixteen-layers
-    part-sixteen-layers-start
-    part-sixteen-layers-end
+    mul-short
+    sub-short
+    part-short-start
+    part-short-end
     sixteen-layers-requires
     add-result
     same-length
