@@ -69,12 +69,13 @@ module _ (s ws ws′ : List ℕ) (k : ℕ) (u : Unpacked s ws ws′ k) (e : read
 
 -- A drawing that no check refused, with its words; and what such a one has.
 pub prepared : (t : Bool) (s : List ℕ) (g : D.Grid) (n : ℕ) (ws ws′ : List ℕ) (q : Prepared) → drawFault t s g n ≡ 0
-    → q .number ≡ 0 → q .place ≡ 0 → Unpacked s ws ws′ (q .clauses) → Prepares t s g n ws ws′ q
-prepared t s g n ws ws′ q z e p u =
+    → q .number ≡ 0 → q .place ≡ 0 → Unpacked s ws ws′ (q .clauses) → length ws′ ≡ clauseLimit → Prepares t s g n ws ws′ q
+prepared t s g n ws ws′ q z e p u l =
     record {
       number = e ∙ sym z;
       place = p ∙ placeless s (drawFault t s g n) (clear t s g n z .read);
       words = λ _. u;
+      room = λ _. l;
     }
 
 pub ready : {t : Bool} {s ws ws′ : List ℕ} {g : D.Grid} {n : ℕ} {q : Prepared} → Prepares t s g n ws ws′ q → q .number ≡ 0
@@ -82,8 +83,8 @@ pub ready : {t : Bool} {s ws ws′ : List ℕ} {g : D.Grid} {n : ℕ} {q : Prepa
 ready {t} {s} {g = g} {n} f e = clear t s g n (sym (f .number) ∙ e)
 
 pub words-room : {t : Bool} {s ws ws′ : List ℕ} {g : D.Grid} {n : ℕ} {q : Prepared} → Prepares t s g n ws ws′ q → q .number ≡ 0
-    → length ws′ ≡ clauseLimit → q .clauses ≤ length ws′
-words-room {s = s} f e l = omega (arith, f .words e .count, few-clauses s (ready f e .read))
+    → q .clauses ≤ length ws′
+words-room {s = s} f e = omega (arith, f .words e .count, f .room e, few-clauses s (ready f e .read))
 
 pub words-few : (k : ℕ) (ws : List ℕ) → k ≤ length ws → length ws ≡ clauseLimit → length (take k ws) ≤ clauseLimit
 words-few k ws h l = omega (arith, length-take-le k ws h)

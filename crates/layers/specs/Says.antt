@@ -7,7 +7,7 @@ use Prim.Native.Nat.{ℕ, _*_}
 use lib.Dec.{eqb, ltb, leb}
 use lib.ListN.{length, replicate}
 use Rattle.rules.specs.Values.{pick, firstOf, when}
-use Rattle.rules.specs.Tapes.{Got, readTape, readList, tapeBytes, listOf}
+use Rattle.rules.specs.Tapes.{Got, clauseLimit, readTape, readList, tapeBytes, listOf}
 use Rattle.rules.specs.Drawings as D
 use Rattle.rules.specs.Pictures.{stride, sidesOk, picture, pictureSize, bitmapFile, heightFile}
 use Rattle.code.specs.Unpacking.{Unpacked}
@@ -73,6 +73,7 @@ pub record Prepares (isSolid : Bool) (s : List ℕ) (g : D.Grid) (n : ℕ) (ws w
   pub number : r .number ≡ drawFault isSolid s g n
   pub place : r .place ≡ pick (leb 5 (drawFault isSolid s g n) && leb (drawFault isSolid s g n) 9) (readTape s .place) 0
   pub words : r .number ≡ 0 → Unpacked s ws ws′ (r .clauses)
+  pub room : r .number ≡ 0 → length ws′ ≡ clauseLimit
 
 -- The full drawing: the definition's picture and count.
 pub record FullSays (isSolid : Bool) (s : List ℕ) (d : Grid) (o o′ : List ℕ) (r : Answer) : Type 0 where

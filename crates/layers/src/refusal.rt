@@ -5,8 +5,8 @@ use picture::grid::Grid;
 use picture::grid::grid_fault;
 use tape::check::check_tape;
 ghost use mathlib.Core.Path.{_≡_};
-ghost use Rattle.rules.specs.Tapes.{clauseLimit};
-ghost use Rattle.rules.specs.Drawings.{gridFault};
+ghost use Prim.Native.Nat.{_≤_};
+ghost use Rattle.rules.specs.Drawings.{sizeLimit};
 ghost use Rattle.rules.specs.Pictures.{pictureSize};
 ghost use Rattle.picture.specs.Shapes.{gridIn};
 ghost use Rattle.layers.specs.Says.{Refused, Prepares};
@@ -17,9 +17,9 @@ pub struct Refusal {
     pub place: u32,
 }
 
-// The length of the picture on a grid that is not refused.
+// The length of the picture on a grid of sizes that are not refused.
 fn picture_length(solid: bool, grid: Grid) -> usize
-    requires { ⌜ gridFault solid (gridIn grid solid) ≡ 0 ⌝ }
+    requires { ⌜ (grid .width ≤ sizeLimit) × (grid .height ≤ sizeLimit) ⌝ }
     ensures { λ r. ⌜ r ≡ pictureSize solid (gridIn grid solid) ⌝ }
 {
     let width = grid.width as usize;
@@ -67,8 +67,13 @@ pub struct Prepared {
     pub clauses: usize,
 }
 
-pub fn prepare(solid: bool, tape: &[u8], grid: Grid, length: usize, words: &mut [u64]) -> Prepared
-    requires { do ⌜ (← ⟦words.len()⟧) ≡ clauseLimit ⌝ }
+pub fn prepare(
+    solid: bool,
+    tape: &[u8],
+    grid: Grid,
+    length: usize,
+    words: &mut [u64; 1024],
+) -> Prepared
     ensures { λ r. ⌜ Prepares solid (now (tape .entry)) (gridIn grid solid) length (now (words .entry)) (now (words .exit)) r ⌝ }
 {
     let refusal = draw_refusal(solid, tape, grid, length);

@@ -3,6 +3,7 @@ use mathlib.Core.Path.{_≡_, refl, sym, _∙_}
 use Rattle.rules.specs.Tapes.{readTape}
 use Rattle.rules.specs.Drawings.{gridFault}
 use Rattle.picture.specs.Shapes.{gridIn}
+use Rattle.picture.proofs.Grids.{accepted}
 use Rattle.layers.proofs.Refusals.{tape-refused, grid-refused, length-refused, none-refused}
 use borrow.Author.Needs.{needs}
 use Rattle.layers.proofs.refusal.draw_refusal.Statement.{statement}
@@ -31,7 +32,10 @@ returns-2 : tie.Need-returns-2
 returns-2 c = grid-refused _ _ _ _ _ (read (c .before .before)) (c .before .grid-fault .ensures) (c .if2 .taken) refl
 
 picture-length-requires : tie.Need-picture-length-requires
-picture-length-requires c κs = search needs
+picture-length-requires c κs =
+    let a = c .before .before .before .before .before .args in
+    let z = accepted (a .grid) (a .solid) (sound c) .sizes in
+    (z .width .most, z .height .most)
 
 returns-3 : tie.Need-returns-3
 returns-3 c =

@@ -2,14 +2,10 @@
 use mathlib.Core.Path.{ap, _∙_}
 use Prim.Native.Nat.{_*_, _≤_}
 use native.Mathlib.Omega.{arith}
-use Rattle.picture.proofs.Grids.{Sizes, accepted}
 use Rattle.layers.proofs.Refusals.{area, solid-size, flat-size}
 use borrow.Author.Needs.{needs}
 use Rattle.layers.proofs.refusal.picture_length.Statement.{statement}
 use Rattle.layers.proofs.refusal.picture_length.Tie as tie
-
-sizes : (c : tie.Start) → Sizes (c .args .solid) (c .args .grid)
-sizes c = accepted (c .args .grid) (c .args .solid) (c .pre) .sizes
 
 cast-width : tie.Need-cast-width
 cast-width c = search needs
@@ -19,19 +15,19 @@ cast-height c = search needs
 
 mul-result : tie.Need-mul-result
 mul-result c =
-    let z = sizes (c .before .before .before) in omega (arith, area _ _ (z .width .most) (z .height .most))
+    let p = c .before .before .before .pre in omega (arith, area _ _ (p .0) (p .1))
 
 returns : tie.Need-returns
 returns c = solid-size _ _ (c .if1 .taken)
 
 stride-requires : tie.Need-stride-requires
-stride-requires c κs = sizes (c .before .before .before) .width .most
+stride-requires c κs = c .before .before .before .pre .0
 
 mul-result-2 : tie.Need-mul-result-2
 mul-result-2 c =
-    let z = sizes (c .before .before .before .before) in
-    let r : c .stride .result ≤ 512 = omega (arith, c .stride .ensures, z .width .most) in
-    omega (arith, area _ (c .stride .result) (z .height .most) r)
+    let p = c .before .before .before .before .pre in
+    let r : c .stride .result ≤ 512 = omega (arith, c .stride .ensures, p .0) in
+    omega (arith, area _ (c .stride .result) (p .1) r)
 
 returns-2 : tie.Need-returns-2
 returns-2 c =

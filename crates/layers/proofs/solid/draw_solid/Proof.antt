@@ -11,18 +11,15 @@ use Rattle.layers.proofs.solid.draw_solid.Statement.{statement}
 use Rattle.layers.proofs.solid.draw_solid.Tie as tie
 
 -- The words of the tape are among those there are.
-fits : (c : tie.Else1) → (let p = c .before .before .prepare in p .result .clauses ≤ length (p .last .1 .1 .1 .1 .0))
-fits c = let p = c .before .before .prepare in words-room (p .ensures) (c .if1 .left) (p .kept .1 .1 .1 .1 .0)
-
-slice-aggregate-prepare : tie.Need-slice-aggregate-prepare
-slice-aggregate-prepare c = search needs
+fits : (c : tie.Else1) → (let p = c .before .prepare in p .result .clauses ≤ length (p .last .1 .1 .1 .1 .0))
+fits c = let p = c .before .prepare in words-room (p .ensures) (c .if1 .left)
 
 prepare-requires : tie.Need-prepare-requires
 prepare-requires c κs = search needs
 
 returns : tie.Need-returns
 returns c =
-    full-refused true _ _ _ _ _ _ _ (c .before .before .prepare .ensures) refl (c .if1 .taken) refl refl
+    full-refused true _ _ _ _ _ _ _ (c .before .prepare .ensures) refl (c .if1 .taken) refl refl
 
 array-share-prefix-words : tie.Need-array-share-prefix-words
 array-share-prefix-words c = fits c
@@ -33,10 +30,10 @@ slice-aggregate-draw-solid c = sym (length-take-le _ _ (fits (c .before)))
 draw-solid-requires : tie.Need-draw-solid-requires
 draw-solid-requires c κs =
     let e = c .before .before in
-    let p = e .before .before .prepare in (
+    let p = e .before .prepare in (
       drawable (p .ensures) (e .if1 .left),
       (
-        words-few (p .result .clauses) _ (fits e) (p .kept .1 .1 .1 .1 .0),
+        words-few (p .result .clauses) _ (fits e) (p .ensures .room (e .if1 .left)),
         ready (p .ensures) (e .if1 .left) .size ∙ sym (solid-size true _ refl),
       ),
     )
@@ -47,13 +44,12 @@ same-length c = search needs
 returns-2 : tie.Need-returns-2
 returns-2 c =
     let e = c .before .before .before .before .before in
-    full-done true _ _ _ _ _ _ _ _ (e .before .before .prepare .ensures) (e .if1 .left) (c .before .before .draw-solid .ensures) refl refl
+    full-done true _ _ _ _ _ _ _ _ (e .before .prepare .ensures) (e .if1 .left) (c .before .before .draw-solid .ensures) refl refl
 
 pub draw-solid-spec : {M : Type 1} → statement M
 draw-solid-spec =
     tie.close
     (tie.spec
-    slice-aggregate-prepare
     prepare-requires
     returns
     array-share-prefix-words

@@ -13,23 +13,20 @@ use Rattle.layers.proofs.solid.tile_solid.Statement.{statement}
 use Rattle.layers.proofs.solid.tile_solid.Tie as tie
 
 -- The words of the tape are among those there are.
-fits : (c : tie.Else1) → (let p = c .before .before .prepare in p .result .clauses ≤ length (p .last .1 .1 .1 .1 .0))
-fits c = let p = c .before .before .prepare in words-room (p .ensures) (c .if1 .left) (p .kept .1 .1 .1 .1 .0)
-
-slice-aggregate-prepare : tie.Need-slice-aggregate-prepare
-slice-aggregate-prepare c = search needs
+fits : (c : tie.Else1) → (let p = c .before .prepare in p .result .clauses ≤ length (p .last .1 .1 .1 .1 .0))
+fits c = let p = c .before .prepare in words-room (p .ensures) (c .if1 .left)
 
 prepare-requires : tie.Need-prepare-requires
 prepare-requires c κs = search needs
 
 returns : tie.Need-returns
 returns c =
-    tiles-refused true _ _ _ _ _ _ _ _ (c .before .before .prepare .ensures) (c .if1 .taken) refl refl refl
+    tiles-refused true _ _ _ _ _ _ _ _ (c .before .prepare .ensures) (c .if1 .taken) refl refl refl
 
 returns-2 : tie.Need-returns-2
 returns-2 c =
     let e = c .before in
-    tiles-short true _ _ _ _ _ _ _ _ (e .before .before .prepare .ensures) (e .if1 .left) (c .if2 .taken) refl refl refl
+    tiles-short true _ _ _ _ _ _ _ _ (e .before .prepare .ensures) (e .if1 .left) (c .if2 .taken) refl refl refl
 
 array-share-prefix-words : tie.Need-array-share-prefix-words
 array-share-prefix-words c = fits (c .before)
@@ -41,7 +38,7 @@ tile-solid-requires : tie.Need-tile-solid-requires
 tile-solid-requires c κs =
     let b = c .before .before .before in
     let e = b .before in
-    let f = e .before .before .prepare .ensures in
+    let f = e .before .prepare .ensures in
     let k = ready f (e .if1 .left) in
     (sound f (e .if1 .left), (record { fault = k .grid; size = k .size ∙ sym (solid-size true _ refl) }, omega (arith, b .if2 .left)))
 
@@ -60,14 +57,13 @@ returns-3 c =
     let e = b .before in
     let u = c .before .before .before .before .before .before .before .before .tile-solid in
     let v = u .ensures in
-    tiles-done true _ _ _ _ _ _ _ _ _ _ (e .before .before .prepare .ensures) (e .if1 .left) (b .if2 .left)
+    tiles-done true _ _ _ _ _ _ _ _ _ _ (e .before .prepare .ensures) (e .if1 .left) (b .if2 .left)
     (record { pixels = λ n a. v .shown n a ∙ solid-picture _ _; count = v .count }) (c .before .before .clear .ensures ∙ ap (λ m. replicate m 0) (u .kept .1 .1 .1 .0)) refl refl
 
 pub tile-solid-spec : {M : Type 1} → statement M
 tile-solid-spec =
     tie.close
     (tie.spec
-    slice-aggregate-prepare
     prepare-requires
     returns
     returns-2
