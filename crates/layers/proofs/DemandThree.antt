@@ -4,7 +4,6 @@ use mathlib.Core.Path.{_≡_, sym, ap, _∙_}
 use mathlib.Core.Bool.{Bool, true, false}
 use mathlib.Core.List.{List}
 use Prim.Native.Nat.{ℕ, _*_, _≤_}
-use lib.Dec.{eqb, ltb}
 use lib.ListN.{length}
 use borrow.Author.Tests.{eq-eqb}
 use Rattle.rules.specs.Tapes.{readTape}
@@ -17,7 +16,7 @@ use Rattle.picture.specs.declared.grid.Grid.{Grid}
 use Rattle.picture.proofs.Grids.{accepted}
 use Rattle.layers.specs.declared.Answer.{Answer}
 use Rattle.layers.specs.Says.{drawFault, tileFault, FullSays, TilesSay}
-use Rattle.layers.proofs.Drawing.{clear}
+use Rattle.layers.proofs.Drawing.{first-left, first-right, clear}
 
 -- A done drawing by tiles.
 pub record DrawnByTiles (isSolid : Bool) (s : List ℕ) (d : Grid) (o′ : List ℕ) (count : ℕ) : Type 0 where
@@ -35,7 +34,7 @@ by-tiles t s d o o′ w w′ r f e =
     let x = tileFault t s g (length o) (length w) in
     let z : x ≡ 0 = sym (f .answer .number) ∙ e in
     let k = eq-eqb x 0 z in
-    let c = clear t s g (length o) (first-zero (drawFault t s g (length o)) _ z .0) in
+    let c = clear t s g (length o) (search (first-left, first-right)) in
     let tiles = demand-3 s (c .read) in
     let kind = accepted d t (c .grid) .kind in
     record {

@@ -26,6 +26,13 @@ use Rattle.layers.specs.declared.refusal.Prepared.{Prepared}
 use Rattle.layers.specs.Says.{drawFault, Prepares, FullSays}
 use Rattle.layers.proofs.Refusals.{placeless}
 
+-- A first number that is 0: both are.
+pub first-left : (a b : ℕ) → firstOf a b ≡ 0 → a ≡ 0
+first-left a b e = first-zero a b e .0
+
+pub first-right : (a b : ℕ) → firstOf a b ≡ 0 → b ≡ 0
+first-right a b e = first-zero a b e .1
+
 when-zero : (t : Bool) (n : ℕ) → when (not t) (suc n) ≡ 0 → t ≡ true
 when-zero true n e = refl
 when-zero false n e = absurd (omega arith)
