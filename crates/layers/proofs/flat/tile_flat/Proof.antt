@@ -26,7 +26,7 @@ returns c =
 returns-2 : tie.Need-returns-2
 returns-2 c =
     let e = c .before in
-    tiles-short false _ _ _ _ _ _ _ _ (e .before .prepare .ensures) (e .if1 .left) (c .if2 .taken) refl refl refl
+    tiles-short false _ _ _ _ _ _ _ _ (e .before .prepare .ensures) (e .if1 .left) (omega (arith, c .if2 .taken)) refl refl refl
 
 array-share-prefix-words : tie.Need-array-share-prefix-words
 array-share-prefix-words c = fits (c .before)
