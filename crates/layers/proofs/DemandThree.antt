@@ -27,6 +27,7 @@ pub record DrawnByTiles (isSolid : Bool) (s : List ℕ) (d : Grid) (o′ : List 
   pub part-solid : isSolid ≡ true → (r : D.Region) (u : D.State) → r .long ≡ 64
       → D.partOf (readTape s .tape) (gridIn d isSolid) r u ≤ D.solidBound * length (readTape s .tape .clauses)
 
+-- No check refused it, in whichever order they stand.
 pub by-tiles : (t : Bool) (s : List ℕ) (d : Grid) (o o′ w w′ : List ℕ) (r : Answer) → TilesSay t s d o o′ w w′ r
     → r .number ≡ 0 → DrawnByTiles t s d o′ (r .count)
 by-tiles t s d o o′ w w′ r f e =
