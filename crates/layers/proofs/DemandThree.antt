@@ -9,7 +9,6 @@ use borrow.Author.Tests.{eq-eqb}
 use Rattle.rules.specs.Tapes.{readTape}
 use Rattle.rules.specs.Drawings as D
 use Rattle.rules.specs.Pictures.{picture}
-use Rattle.rules.proofs.Tests.{first-zero}
 use Rattle.rules.proofs.Tiles.{demand-3}
 use Rattle.picture.specs.Shapes.{gridIn}
 use Rattle.picture.specs.declared.grid.Grid.{Grid}
