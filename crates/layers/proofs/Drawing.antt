@@ -8,7 +8,7 @@ use lib.Dec.{eqb, leb}
 use lib.ListN.{length, take}
 use lib.Seq.{length-take-le}
 use borrow.Author.Tests.{eqb-true, ne-eqb, eq-eqb}
-use Rattle.rules.specs.Values.{when}
+use Rattle.rules.specs.Values.{firstOf, when}
 use Rattle.rules.specs.Tapes.{readTape, clauseLimit}
 use Rattle.rules.specs.Drawings as D
 use Rattle.rules.specs.Pictures.{picture, pictureSize}
