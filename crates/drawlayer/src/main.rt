@@ -3,13 +3,10 @@
 use program::LINE;
 use program::OUTPUT;
 use program::draw_layer;
-
-// One byte more than the longest input that can be drawn, 32 of a record and 10,248 of a tape. A longer one is refused, for
-// whatever is behind that byte.
-const INPUT: usize = 10281;
+use program::input_room;
 
 fn main() {
-    let mut input = [0u8; INPUT];
+    let mut input = input_room();
     // A read that fails ends the input.
     let size = io::read_full(0, &mut input);
     let mut out = [0u8; OUTPUT];

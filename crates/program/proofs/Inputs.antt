@@ -1,7 +1,7 @@
 -- The checks of an input in their order, and the program's output of a drawing that is refused or done.
 use mathlib.Core.Path.{_≡_, refl, sym, ap, ap₂, subst, _∙_}
 use mathlib.Core.Bool.{Bool, true, false, _&&_, _||_, not}
-use mathlib.Core.List.{List, [], _++_}
+use mathlib.Core.List.{List, []}
 use Prim.Native.Nat.{ℕ, _-_, _≤_, _<_}
 use native.Mathlib.Nat.{zero-add}
 use native.Mathlib.Omega.{arith}
@@ -9,7 +9,7 @@ use lib.Dec.{eqb, ltb, leb}
 use lib.ListN.{length, take, drop, length-drop, length-append}
 use lib.Seq.{take-all}
 use borrow.Author.Tests.{le-leb, lt-leb, leb-true, ltb-false, eq-eqb, ne-eqb}
-use Rattle.rules.specs.Values.{pick, firstOf, when}
+use Rattle.rules.specs.Values.{firstOf}
 use Rattle.rules.specs.Tapes.{readTape}
 use Rattle.rules.specs.Drawings as D
 use Rattle.rules.specs.Program.{recordLength, tapeAfter, gridRecord, recordOk, solidLimit, tooLarge, programFault, programPlace, fileOf, countLine, refusedLine, Output, programOf}

@@ -1,13 +1,13 @@
 -- A drawing by tiles that is lent enough: its number, and its file where that is 0. Flat and solid are one case.
-use mathlib.Core.Path.{_≡_, refl, sym, ap, _∙_}
+use mathlib.Core.Path.{_≡_, refl, sym, ap, ap₂, _∙_}
 use mathlib.Core.Bool.{Bool, true, false, _&&_, not}
-use mathlib.Core.List.{List, [], _++_}
+use mathlib.Core.List.{List, _++_}
 use Prim.Native.Nat.{ℕ, zero, suc, _+_, _*_, _≤_}
 use native.Mathlib.Omega.{arith}
-use lib.Dec.{eqb, ltb, leb}
+use lib.Dec.{eqb, leb}
 use lib.ListN.{length, take, drop, length-append}
 use lib.Seq.{take-at, length-take-le}
-use borrow.Author.Tests.{eqb-true, ne-eqb, eq-eqb, le-ltb, le-leb}
+use borrow.Author.Tests.{ne-eqb, eq-eqb, le-ltb, le-leb}
 use Rattle.rules.specs.Values.{pick, firstOf, when}
 use Rattle.rules.specs.Tapes.{readTape}
 use Rattle.rules.specs.Drawings as D
@@ -20,7 +20,7 @@ use Rattle.netpbm.proofs.FileLaws.{Sides, short-head, length-bitmap, length-hei
 use Rattle.layers.specs.declared.Answer.{Answer}
 use Rattle.layers.specs.Says as Calls
 use Rattle.program.specs.declared.Drawn.{Drawn}
-use Rattle.program.specs.Says.{over, PictureFits, FileSays}
+use Rattle.program.specs.Says.{PictureFits, FileSays}
 
 -- The sides of a grid that is not refused.
 pub sides : (t : Bool) (d : Grid) → D.gridFault t (gridIn d t) ≡ 0 → Sides (d .width) (d .height)
@@ -78,69 +78,94 @@ unfolding fileOf picture
 file-of true g h e = rw (sym e)
 file-of false g h e = rw (sym e)
 
--- What a drawing by tiles leaves.
-module _ {t : Bool} {s : List ℕ} {d : Grid} {p p′ w w′ : List ℕ} {a : Answer} (f : Calls.TilesSay t s d p p′ w w′ a) (l : Lent t d (length p) (length w)) where
-  same : Calls.tileFault t s (gridIn d t) (length p) (length w) ≡ faultOf t s d
-  same = tile-fault t s d (length p) (length w) l
-
-  number : a .number ≡ faultOf t s d
-  number = f .answer .number ∙ same
-
-  pub taken : a .number ≡ 0 → D.gridFault t (gridIn d t) ≡ 0
-  taken e = grid-taken (readTape s .number) _ (sym number ∙ e)
-
-  pub layer-refused : (o : List ℕ) (r : Drawn) → (a .number ≡ 0 → ⊥) → r .number ≡ a .number → r .place ≡ a .place
-      → r .count ≡ 0 → r .length ≡ 0 → FileSays t s d o o r
-  layer-refused o r h e q c z =
-      let k : eqb (faultOf t s d) 0 ≡ false = ne-eqb (faultOf t s d) 0 (λ x. h (number ∙ x)) in
-      record {
-        number = e ∙ number;
-        place = rw same at (q ∙ f .answer .place);
-        count = rw k c;
-        size = rw k z;
-        out = rw k refl;
-      }
-
-  pub layer-done : (o o′ q x : List ℕ) (r : Drawn) → a .number ≡ 0 → r .number ≡ 0 → r .place ≡ 0 → r .count ≡ a .count
-      → q ≡ p′ → x ≡ fileIn t (gridIn d t) q → r .length ≡ length x → o′ ≡ x ++ drop (r .length) o → FileSays t s d o o′ r
-  layer-done o o′ q x r z e y c j i m u =
-      let g = gridIn d t in
-      let n : faultOf t s d ≡ 0 = sym number ∙ z in
-      let k = eq-eqb (faultOf t s d) 0 n in
-      let w = D.walked (readTape s .tape) g in
-      let pixels : p′ ≡ picture t g (w .heights)
-      = f .pixels ∙ ap (λ v. Calls.written v (picture t g (w .heights)) p) (same ∙ n) in
-      let file : x ≡ fileOf g (w .heights)
-      = i ∙ ap (fileIn t g) (j ∙ pixels) ∙ file-of t g (w .heights) (accepted d t (taken z) .kind) in
-      record {
-        number = e ∙ sym n;
-        place = y ∙ ap (λ v. pick (leb 5 v && leb v 9) (readTape s .place) 0) (sym n);
-        count = c ∙ f .answer .count ∙ ap (λ v. pick (eqb v 0) (w .clauses) 0) same;
-        size = rw k (m ∙ ap length file);
-        out = rw k (u ∙ ap (λ v. x ++ drop v o) m ∙ ap (λ v. over v o) file);
-      }
-
--- The parts that are lent: of the picture, which comes back, and all of the work buffer.
-pub lent : {t : Bool} {d : Grid} {n r : ℕ} → PictureFits t d n r → (z w : List ℕ) → n ≡ length z → D.workLimit ≡ length w
-    → Lent t d (length (take r z)) (length w)
-lent {r = r} f z w e h =
-    record { pixels = λ i. length-take-le r z (omega (arith, f .most)) ∙ f .size i; work = omega arith }
-
 -- The first n of z were lent and came back as p.
 pub record Back (p z : List ℕ) (n : ℕ) : Type 0 where
   pub room : n ≤ length (p ++ drop n z)
   pub size : length (take n (p ++ drop n z)) ≡ n
   pub same : take n (p ++ drop n z) ≡ p
 
-pub come-back : (p z : List ℕ) (n : ℕ) → length p ≡ n → Back p z n
+come-back : (p z : List ℕ) (n : ℕ) → length p ≡ n → Back p z n
 come-back p z n e =
     let h : n ≤ length (p ++ drop n z) = simp length-append (omega arith) in
     record { room = h; size = length-take-le n (p ++ drop n z) h; same = take-at p (drop n z) n e }
 
 -- What a call leaves that makes a file of a picture and has room for just that file.
-pub made : {w h n : ℕ} {q b x x′ : List ℕ} {a : Answer} → Sides w h → length q ≡ n → length x ≡ length b
+made : {w h n : ℕ} {q b x x′ : List ℕ} {a : Answer} → Sides w h → length q ≡ n → length x ≡ length b
     → Calls.FileSays w h n q b x x′ a → x′ ≡ b
 made {w} {h} {n} {q} {b} {x} s e l f = f .out ∙ rw (sides-ok s, eq-eqb (length q) n e, eq-eqb (length x) (length b) l) refl
+
+-- What a drawing by tiles leaves that is lent the first n of the picture z, and all of the work buffer w.
+pub record Tiled (t : Bool) (s : List ℕ) (d : Grid) (n : ℕ) (z p w w′ : List ℕ) (a : Answer) : Type 0 where
+  pub says : Calls.TilesSay t s d (take n z) p w w′ a
+  pub lent : Lent t d (length (take n z)) (length w)
+  pub size : D.gridFault t (gridIn d t) ≡ 0 → n ≡ pictureSize t (gridIn d t)
+  pub back : Back p z n
+
+pub tiled : {t : Bool} {s : List ℕ} {d : Grid} {m n : ℕ} {p w′ : List ℕ} {a : Answer} (z w : List ℕ) → PictureFits t d m n
+    → m ≡ length z → D.workLimit ≡ length w → length p ≡ length (take n z) → Calls.TilesSay t s d (take n z) p w w′ a
+    → Tiled t s d n z p w w′ a
+tiled {n = n} {p} z w f e h k c =
+    let l = length-take-le n z (omega (arith, f .most)) in
+    record {
+      says = c;
+      lent = record { pixels = λ i. l ∙ f .size i; work = omega arith };
+      size = f .size;
+      back = come-back p z n (k ∙ l);
+    }
+
+module _ {t : Bool} {s : List ℕ} {d : Grid} {n : ℕ} {z p w w′ : List ℕ} {a : Answer} (f : Tiled t s d n z p w w′ a) where
+  same : Calls.tileFault t s (gridIn d t) (length (take n z)) (length w) ≡ faultOf t s d
+  same = tile-fault t s d (length (take n z)) (length w) (f .lent)
+
+  number : a .number ≡ faultOf t s d
+  number = f .says .answer .number ∙ same
+
+  taken : a .number ≡ 0 → D.gridFault t (gridIn d t) ≡ 0
+  taken e = grid-taken (readTape s .number) _ (sym number ∙ e)
+
+  pub sided : a .number ≡ 0 → Sides (d .width) (d .height)
+  sided e = sides t d (taken e)
+
+  pub pixels : a .number ≡ 0 → n ≡ pictureSize t (gridIn d t)
+  pixels e = f .size (taken e)
+
+  pub layer-refused : (o : List ℕ) (r : Drawn) → (a .number ≡ 0 → ⊥) → r .number ≡ a .number → r .place ≡ a .place
+      → r .count ≡ 0 → r .length ≡ 0 → FileSays t s d o o r
+  layer-refused o r h e q c y =
+      let k : eqb (faultOf t s d) 0 ≡ false = ne-eqb (faultOf t s d) 0 (λ x. h (number ∙ x)) in
+      record {
+        number = e ∙ number;
+        place = rw same at (q ∙ f .says .answer .place);
+        count = rw k c;
+        size = rw k y;
+        out = rw k refl;
+      }
+
+  -- The file was made of the part that came back, in the first bytes of the output.
+  pub layer-done : (o x : List ℕ) (m : ℕ) (b : Answer) (r : Drawn) → a .number ≡ 0
+      → (let q = take n (p ++ drop n z) in
+      Calls.FileSays (d .width) (d .height) m q (fileIn t (gridIn d t) q) (take (r .length) o) x b)
+      → m ≡ pictureSize t (gridIn d t) → r .length ≤ length o → r .length ≡ length (fileIn t (gridIn d t) (take n (p ++ drop n z)))
+      → r .number ≡ 0 → r .place ≡ 0 → r .count ≡ a .count → FileSays t s d o (x ++ drop (r .length) o) r
+  layer-done o x m b r i u v j l e y c =
+      let g = gridIn d t in
+      let k : faultOf t s d ≡ 0 = sym number ∙ i in
+      let h = eq-eqb (faultOf t s d) 0 k in
+      let c′ = D.walked (readTape s .tape) g in
+      let made-of : x ≡ fileIn t g (take n (p ++ drop n z))
+      = made (sided i) (f .back .size ∙ pixels i ∙ sym v) (length-take-le (r .length) o j ∙ l) u in
+      let drawn : p ≡ picture t g (c′ .heights)
+      = f .says .pixels ∙ ap (λ v. Calls.written v (picture t g (c′ .heights)) (take n z)) (same ∙ k) in
+      let file : x ≡ fileOf g (c′ .heights)
+      = made-of ∙ ap (fileIn t g) (f .back .same ∙ drawn) ∙ file-of t g (c′ .heights) (accepted d t (taken i) .kind) in
+      let size : r .length ≡ length (fileOf g (c′ .heights)) = l ∙ ap length (sym made-of ∙ file) in
+      record {
+        number = e ∙ sym k;
+        place = y ∙ ap (λ v. pick (leb 5 v && leb v 9) (readTape s .place) 0) (sym k);
+        count = c ∙ f .says .answer .count ∙ ap (λ v. pick (eqb v 0) (c′ .clauses) 0) same;
+        size = rw h size;
+        out = rw h (ap₂ (λ v m. v ++ drop m o) file size);
+      }
 
 -- The lengths of the files, as the code has them.
 module _ (d : Grid) (q : List ℕ) (m n : ℕ) (e : length q ≡ n) where

@@ -6,10 +6,15 @@ mod lines;
 mod record;
 mod solid;
 
+pub use buffers::input_room;
 use layer::layer_file;
 use lines::put_count;
 use lines::put_refused;
 ghost use Rattle.program.specs.Says.{ProgramSays};
+
+// How much of an input there is to read: one byte more than the longest that can be drawn, 32 of a record and 10,248 of a
+// tape. What is behind it changes nothing.
+pub const INPUT: usize = 10281;
 
 // Room for the longest file: a solid of 128 by 128 pixels has a head of 17 bytes and two bytes a pixel.
 pub const OUTPUT: usize = 32785;

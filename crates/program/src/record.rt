@@ -17,10 +17,10 @@ const SOLID_LIMIT: u32 = 128;
 pub fn record_ok(input: &[u8]) -> bool
     ensures { λ r. ⌜ r ≡ recordOk (now (input .entry)) ⌝ }
 {
-    if input.len() < RECORD_LENGTH {
-        return false;
+    if input.len() >= RECORD_LENGTH {
+        return has_mark(input, 0, b"GR");
     }
-    has_mark(input, 0, b"GR")
+    false
 }
 
 // The grid, flat or solid: also a flat one has its third step here, which no drawing reads.

@@ -14,6 +14,9 @@ first c = first-within (c .draw-layer .ensures)
 second : (c : tie.After-draw-layer) → c .draw-layer .result .line ≤ length (c .draw-layer .last .1 .1 .0)
 second c = second-within (c .draw-layer .ensures)
 
+input-room-requires : tie.Need-input-room-requires
+input-room-requires c κs = search needs
+
 slice-aggregate-read-full : tie.Need-slice-aggregate-read-full
 slice-aggregate-read-full c = search needs
 
@@ -54,6 +57,7 @@ pub main-spec : {M : Type 1} → statement M
 main-spec =
     tie.close
     (tie.spec
+    input-room-requires
     slice-aggregate-read-full
     read-full-requires
     array-share-prefix-input

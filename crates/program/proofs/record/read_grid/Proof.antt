@@ -33,7 +33,20 @@ constant-at-requires-6 c κs = search needs
 
 returns : tie.Need-returns
 returns c =
-    fields-read _ (c .before .before .before .before .before .before .before .before .word-at .ensures .0) (c .before .before .before .before .before .before .before .word-at2 .ensures .0) (c .before .before .before .before .before .before .word-at3 .ensures .0) (record { fits = c .before .before .before .before .before .constant-at .ok; value = c .before .before .before .before .before .constant-at .ensures }) (record { fits = c .before .before .before .before .constant-at2 .ok; value = c .before .before .before .before .constant-at2 .ensures }) (record { fits = c .before .before .before .constant-at3 .ok; value = c .before .before .before .constant-at3 .ensures }) (record { fits = c .before .before .constant-at4 .ok; value = c .before .before .constant-at4 .ensures }) (record { fits = c .before .constant-at5 .ok; value = c .before .constant-at5 .ensures }) (record { fits = c .constant-at6 .ok; value = c .constant-at6 .ensures })
+    let x = c .before .before .before .before .before .constant-at in
+    let y = c .before .before .before .before .constant-at2 in
+    let z = c .before .before .before .constant-at3 in
+    let u = c .before .before .constant-at4 in
+    let v = c .before .constant-at5 in
+    let t = c .constant-at6 in
+    let d = c .before .before .before .before .before .before in
+    fields-read _ (d .before .before .word-at .ensures .0) (d .before .word-at2 .ensures .0) (d .word-at3 .ensures .0)
+    (record { fits = x .ok; value = x .ensures })
+    (record { fits = y .ok; value = y .ensures })
+    (record { fits = z .ok; value = z .ensures })
+    (record { fits = u .ok; value = u .ensures })
+    (record { fits = v .ok; value = v .ensures })
+    (record { fits = t .ok; value = t .ensures })
 
 pub read-grid-spec : {M : Type 1} → statement M
 read-grid-spec =

@@ -1,15 +1,13 @@
 -- Refused with the output as it was, or the height file of the walk's picture.
-use mathlib.Core.Path.{_≡_, refl, sym, ap, _∙_}
+use mathlib.Core.Path.{refl, sym}
 use mathlib.Core.Bool.{true}
 use Prim.Native.Nat.{_≤_}
 use native.Mathlib.Omega.{arith}
-use lib.ListN.{length, take}
+use lib.ListN.{length}
 use lib.Seq.{length-take-le}
-use Rattle.rules.specs.Drawings.{gridFault}
 use Rattle.picture.specs.Shapes.{gridIn}
-use Rattle.netpbm.proofs.FileLaws.{Sides}
 use Rattle.layers.proofs.Refusals.{solid-size}
-use Rattle.program.proofs.Layers.{Lent, lent, sides, short-start, taken, Back, come-back, made, heights-length, layer-refused, layer-done}
+use Rattle.program.proofs.Layers.{short-start, Tiled, tiled, sided, heights-length, layer-refused, layer-done}
 use borrow.Author.Needs.{needs}
 use Rattle.program.proofs.solid.solid_file.Statement.{statement}
 use Rattle.program.proofs.solid.solid_file.Tie as tie
@@ -18,44 +16,30 @@ use Rattle.program.proofs.solid.solid_file.Tie as tie
 room : (c : tie.After-picture-length) → c .picture-length .result ≤ length (c .before .before .zero-heights .result)
 room c = omega (arith, c .picture-length .ensures .most, c .before .before .zero-heights .ensures)
 
--- What is lent is enough, and the picture's part comes back as long as it was.
-enough : (c : tie.After-tile-solid)
+drawn : (c : tie.After-tile-solid)
     → (let e = c .before .before .before in
     let a = e .before .before .before .before .before .args in
-    Lent true (a .grid) (length (take (e .picture-length .result) (e .before .before .zero-heights .result))) (length (e .before .zero-bytes .result)))
-enough c =
+    Tiled true (a .tape .now) (a .grid) (e .picture-length .result) (e .before .before .zero-heights .result) (c .tile-solid .last .1 .1 .0)
+    (e .before .zero-bytes .result) (c .tile-solid .last .1 .1 .1 .0) (c .tile-solid .result))
+drawn c =
     let e = c .before .before .before in
-    lent (e .picture-length .ensures) (e .before .before .zero-heights .result) (e .before .zero-bytes .result)
-    (e .before .before .zero-heights .ensures) (e .before .zero-bytes .ensures)
+    tiled (e .before .before .zero-heights .result) (e .before .zero-bytes .result) (e .picture-length .ensures) (e .before .before .zero-heights .ensures)
+    (e .before .zero-bytes .ensures) (c .tile-solid .kept .1 .1 .0) (c .tile-solid .ensures)
 
-back : (c : tie.After-tile-solid)
-    → (let e = c .before .before .before in
-    Back (c .tile-solid .last .1 .1 .0) (e .before .before .zero-heights .result) (e .picture-length .result))
-back c =
-    let e = c .before .before .before in
-    come-back (c .tile-solid .last .1 .1 .0) (e .before .before .zero-heights .result) (e .picture-length .result)
-    (c .tile-solid .kept .1 .1 .0 ∙ length-take-le (e .picture-length .result) (e .before .before .zero-heights .result) (room e))
-
--- A drawing that is not refused: its grid, and the room that its file takes.
-accepted : (c : tie.Else1)
-    → (let a = c .before .before .before .before .before .before .before .before .before .before .before .args in
-    gridFault true (gridIn (a .grid) true) ≡ 0)
-accepted c = let t = c .before .before .before in taken (t .tile-solid .ensures) (enough t) (c .if1 .left)
-
-sided : (c : tie.Else1)
-    → (let a = c .before .before .before .before .before .before .before .before .before .before .before .args in
-    Sides (a .grid .width) (a .grid .height))
-sided c =
-    let a = c .before .before .before .before .before .before .before .before .before .before .before .args in
-    sides true (a .grid) (accepted c)
-
+-- The file fits the output.
 fits : (c : tie.After-file-length)
     → (let a = c .before .before .before .before .before .before .before .before .before .before .before .before .args in
     c .file-length .result ≤ length (a .out .now))
 fits c =
-    let e = c .before .before .before .before .before .before .before in
-    let p = e .before .before .before .before .before .pre .1 .1 in
-    omega (arith, c .file-length .ensures 53, e .picture-length .ensures .most, p, short-start 53 (sided (c .before)))
+    let t = c .before .before .before .before in
+    let e = t .before .before .before in
+    omega (
+      arith,
+      c .file-length .ensures 53,
+      e .picture-length .ensures .most,
+      e .before .before .before .before .before .pre .1 .1,
+      short-start 53 (sided (drawn t) (c .before .if1 .left)),
+    )
 
 zero-heights-requires : tie.Need-zero-heights-requires
 zero-heights-requires c κs = search needs
@@ -80,8 +64,7 @@ tile-solid-requires c κs = search needs
 
 returns : tie.Need-returns
 returns c =
-    let t = c .before .before .before in
-    layer-refused (t .tile-solid .ensures) (enough t) _ _ (c .if1 .taken) refl refl refl refl
+    layer-refused (drawn (c .before .before .before)) _ _ (c .if1 .taken) refl refl refl refl
 
 mul-file-length : tie.Need-mul-file-length
 mul-file-length c = search needs
@@ -93,10 +76,10 @@ file-length-requires : tie.Need-file-length-requires
 file-length-requires c κs = search needs
 
 array-share-prefix-picture : tie.Need-array-share-prefix-picture
-array-share-prefix-picture c = back (c .before .before .before .before) .room
+array-share-prefix-picture c = drawn (c .before .before .before .before) .back .room
 
 slice-aggregate-write-heights : tie.Need-slice-aggregate-write-heights
-slice-aggregate-write-heights c = sym (back (c .before .before .before .before .before) .size)
+slice-aggregate-write-heights c = sym (drawn (c .before .before .before .before .before) .back .size)
 
 slice-relend-prefix-write-heights : tie.Need-slice-relend-prefix-write-heights
 slice-relend-prefix-write-heights c = fits (c .before)
@@ -115,14 +98,11 @@ returns-2 c =
     let w = c .before .before in
     let l = w .before .before .before in
     let e = l .before in
-    let t = e .before .before .before in
-    let z = t .before .before .before in
-    let a = z .before .before .before .before .before .args in
-    let b = back t in
-    let h = z .picture-length .ensures .size (accepted e) ∙ sym (solid-size true (gridIn (a .grid) true) refl) in
-    let m = heights-length (a .grid) _ _ _ (b .size) (l .file-length .ensures 53) in
-    let f = made (sided e) (b .size ∙ h) (length-take-le _ _ (fits l) ∙ m) (w .write-heights .ensures) in
-    layer-done (t .tile-solid .ensures) (enough t) _ _ _ _ _ (e .if1 .left) refl refl refl (b .same) f (m ∙ sym (ap length f)) refl
+    let d = drawn (e .before .before .before) in
+    let g = e .before .before .before .before .before .before .before .before .before .before .before .args .grid in
+    let k = solid-size true (gridIn g true) refl in
+    layer-done d _ _ _ _ _ (e .if1 .left) (w .write-heights .ensures) k (fits l)
+    (heights-length g _ _ _ (d .back .size) (l .file-length .ensures 53)) refl refl refl
 
 pub solid-file-spec : {M : Type 1} → statement M
 solid-file-spec =
