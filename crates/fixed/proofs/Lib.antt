@@ -2,4 +2,3 @@
 pub mod Words
 pub mod Ends
 pub mod Spans
-pub mod Opcodes

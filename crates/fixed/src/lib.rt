@@ -1,4 +1,4 @@
-// Fixed-point arithmetic of every opcode: on values, over ranges, and by clause.
+// Fixed-point arithmetic of every opcode: on values and over ranges, and the choice of a minimum and a maximum.
 pub mod clause;
 pub mod span;
 pub mod value;
