@@ -3,7 +3,6 @@
 pub mod examples;
 pub mod formula;
 pub mod picture;
-pub mod png;
 pub mod shape;
 pub mod slots;
 

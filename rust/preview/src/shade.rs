@@ -1,0 +1,34 @@
+//! A solid as seen from above and lit from the upper left, nothing white.
+
+use crate::{Grid, Heights};
+
+/// Every pixel's grey.
+pub fn shades(heights: &Heights, grid: &Grid) -> Vec<u8> {
+    (0..heights.values.len()).map(|index| shade(heights, index, grid)).collect()
+}
+
+/// A pixel's grey: how squarely its surface faces the light, darker where deep down.
+fn shade(heights: &Heights, index: usize, grid: &Grid) -> u8 {
+    let height = heights.values[index];
+    if height == 0 {
+        return 255;
+    }
+    let [east, south] = slope(heights, index, grid);
+    let facing = (0.45 * east + 0.55 * south + 1.0) / (east * east + south * south + 1.0).sqrt();
+    let raised = height as f64 / grid.depth as f64;
+    let light = 0.12 + 0.62 * facing.max(0.0) * (0.55 + 0.45 * raised);
+    // Few shades: the file is smaller, and the steps of the heights show less.
+    (light.min(1.0) * 50.0).round() as u8 * 5
+}
+
+/// How far the heights rise to the right and downward in the picture, per unit of length, over two pixels each way.
+fn slope(heights: &Heights, index: usize, grid: &Grid) -> [f64; 2] {
+    let width = heights.width;
+    let (column, row) = (index % width, index / width);
+    let z = |column: usize, row: usize| heights.values[row * width + column] as f64 * grid.zstep as f64;
+    let (left, right) = (column.saturating_sub(2), (column + 2).min(width - 1));
+    let (up, down) = (row.saturating_sub(2), (row + 2).min(heights.height - 1));
+    let east = (z(right, row) - z(left, row)) / (4.0 * grid.xstep as f64);
+    let south = (z(column, down) - z(column, up)) / (4.0 * grid.ystep as f64);
+    [east, south]
+}
