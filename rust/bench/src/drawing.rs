@@ -1,8 +1,8 @@
 //! One drawing of a part, by each way: the core's tiles, the plain walk, the core's full drawing.
 
 use crate::plain;
-use layers::raw;
 use layers::Grid;
+use layers::raw;
 
 /// A flat or a solid drawing.
 #[derive(Clone, Copy, PartialEq, Eq)]

@@ -2,7 +2,7 @@
 //! `bench tiles|plain|full flat|solid NAME` draws one part once, for a profiler.
 
 use bench::drawing::{Canvas, Kind, Way};
-use bench::measure::{in_turn, Times};
+use bench::measure::{Times, in_turn};
 use layers::Grid;
 use parts::Part;
 
@@ -37,7 +37,9 @@ fn table() {
         "Least of {runs} or more runs, tiles and plain in turn; 'in turn' is the median of the ratios in each turn."
     );
     println!("The full drawing is left out at 512³, where it has 134 million samples to run.\n");
-    println!("| part | clauses | drawing | tiles ms | plain ms | tiles / plain | in turn | full ms | full / tiles | counted clauses | tiles ns a clause | plain ns a clause |");
+    println!(
+        "| part | clauses | drawing | tiles ms | plain ms | tiles / plain | in turn | full ms | full / tiles | counted clauses | tiles ns a clause | plain ns a clause |"
+    );
     println!("|---|--:|---|--:|--:|--:|--:|--:|--:|--:|--:|--:|");
     for part in parts::all() {
         row(&part, "512²", Kind::Flat, part.flat, runs, true);

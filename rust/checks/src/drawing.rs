@@ -1,7 +1,7 @@
 //! Input of the four drawings.
 
 use crate::compare::both;
-use crate::random::{cases, Random};
+use crate::random::{Random, cases};
 use crate::{damage, grids, lists, shapes};
 use layers::raw;
 use slow::call::{self, Answer};
@@ -81,7 +81,8 @@ impl Drawing {
         let work = r.bytes(self.work);
         let all = || {
             let full_flat = both("draw_flat", &flat, |p| raw::draw_flat(tape, core, p), |p| call::draw(tape, grid, p))?;
-            let full_solid = both("draw_solid", &solid, |p| raw::draw_solid(tape, core, p), |p| call::draw(tape, grid, p))?;
+            let full_solid =
+                both("draw_solid", &solid, |p| raw::draw_solid(tape, core, p), |p| call::draw(tape, grid, p))?;
             let tile_flat = both(
                 "tile_flat",
                 &(flat, work.clone()),

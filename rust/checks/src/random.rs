@@ -1,6 +1,6 @@
 //! Numbers from a fixed seed.
 
-use std::io::{stderr, Write};
+use std::io::{Write, stderr};
 
 pub struct Random(u64);
 

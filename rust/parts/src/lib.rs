@@ -6,10 +6,10 @@ pub mod picture;
 pub mod shape;
 pub mod slots;
 
-use formula::{fixed, Formula};
+use formula::{Formula, fixed};
 use layers::Grid;
 use shape::Shape;
-use slots::{compile, List, TooBig, SLOT_LIMIT};
+use slots::{List, SLOT_LIMIT, TooBig, compile};
 
 /// A part to draw: its tape, and the grids that show it.
 pub struct Part {

@@ -1,6 +1,6 @@
 //! Writes the example parts: program inputs to examples/, pictures to docs/pictures/, both under the folder given.
 
-use parts::{picture, Part};
+use parts::{Part, picture};
 use std::fs;
 use std::path::Path;
 

@@ -1,8 +1,8 @@
 //! Pictures of the parts, drawn by the core.
 
 use crate::Part;
-use layers::raw::{tile_flat, tile_solid, WORK};
 use layers::Grid;
+use layers::raw::{WORK, tile_flat, tile_solid};
 use preview::view::{bitmap_png, heights_png};
 use preview::{Bitmap, Heights};
 

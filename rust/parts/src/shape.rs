@@ -3,7 +3,7 @@
 //! Lengths are millimetres. Squares are clamped at 32,768, so a part should stay within about 100 of the origin. Every
 //! formula is a distance, or near one: such a formula has tight bounds over a region, on which tiles depend.
 
-use crate::formula::{fixed, Formula, Id, Op};
+use crate::formula::{Formula, Id, Op, fixed};
 use std::rc::Rc;
 
 /// A direction, of length 1.
@@ -247,11 +247,7 @@ fn scaled_axis(f: &mut Formula, axis: usize, factor: f64) -> Id {
 /// The value of the material whose distance is below a limit. For the outside the difference is turned round, which
 /// takes no further clause.
 fn surface(f: &mut Formula, distance: Id, limit: f64, w: Wanted) -> Id {
-    if w.outside {
-        f.from(fixed(limit - w.grown), distance)
-    } else {
-        f.less(distance, fixed(limit + w.grown))
-    }
+    if w.outside { f.from(fixed(limit - w.grown), distance) } else { f.less(distance, fixed(limit + w.grown)) }
 }
 
 /// A half-space. One that faces downward is the outside of one that faces upward.

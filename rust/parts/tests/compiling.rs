@@ -4,12 +4,23 @@ mod common;
 
 use common::Random;
 use parts::examples::designs;
-use parts::formula::{Formula, Id, Op, M};
-use parts::slots::{compile, List, TooBig, CLAUSE_LIMIT, SLOT_LIMIT};
+use parts::formula::{Formula, Id, M, Op};
+use parts::slots::{CLAUSE_LIMIT, List, SLOT_LIMIT, TooBig, compile};
 
 const OPS: [Op; 13] = [
-    Op::Constant, Op::X, Op::Y, Op::Z, Op::Negate, Op::Absolute, Op::Square, Op::Root, Op::Add, Op::Subtract,
-    Op::Multiply, Op::Minimum, Op::Maximum,
+    Op::Constant,
+    Op::X,
+    Op::Y,
+    Op::Z,
+    Op::Negate,
+    Op::Absolute,
+    Op::Square,
+    Op::Root,
+    Op::Add,
+    Op::Subtract,
+    Op::Multiply,
+    Op::Minimum,
+    Op::Maximum,
 ];
 
 /// The list's result at a sample: the slot written by the last clause.

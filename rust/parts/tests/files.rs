@@ -1,6 +1,6 @@
 //! The example parts are within the limits, and the files of the repository are theirs.
 
-use parts::{all, picture, Part};
+use parts::{Part, all, picture};
 use std::path::{Path, PathBuf};
 
 fn root() -> PathBuf {

@@ -3,7 +3,7 @@
 mod common;
 
 use common::Random;
-use parts::formula::{fixed, Formula};
+use parts::formula::{Formula, fixed};
 use parts::shape::*;
 
 fn value(shape: &Shape, place: [f64; 3]) -> i64 {

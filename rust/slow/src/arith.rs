@@ -1,6 +1,6 @@
 //! Fixed-point arithmetic: a value is a whole number from −M to M, meaning v/65,536.
 
-use crate::fault::{planted, Fault};
+use crate::fault::{Fault, planted};
 
 /// The greatest value.
 pub const M: i128 = 2_147_483_647;

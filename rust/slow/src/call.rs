@@ -1,9 +1,9 @@
 //! The public calls: what comes back, and what becomes of every lent byte.
 
 use crate::draw::{self, Grid};
-use crate::fault::{planted, Fault};
+use crate::fault::{Fault, planted};
 use crate::netpbm;
-use crate::tape::{refuse, Refused, Tape};
+use crate::tape::{Refused, Tape, refuse};
 use crate::walk;
 
 /// Number, place, count.

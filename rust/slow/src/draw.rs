@@ -1,7 +1,7 @@
 //! Grids, refusals 10 and 11, and the full drawings.
 
-use crate::arith::{Range, M};
-use crate::tape::{refuse, Refused, Tape};
+use crate::arith::{M, Range};
+use crate::tape::{Refused, Tape, refuse};
 
 /// Width, height, depth (unread in a flat drawing), three origins, three steps.
 #[derive(Clone, Copy, Debug, PartialEq, Eq)]

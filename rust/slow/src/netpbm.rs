@@ -1,6 +1,6 @@
 //! Netpbm files.
 
-use crate::fault::{planted, Fault};
+use crate::fault::{Fault, planted};
 
 /// The bitmap file of a flat picture; spare bits come out as 0.
 pub fn bitmap_file(width: u32, height: u32, picture: &[u8]) -> Vec<u8> {

@@ -1,10 +1,10 @@
 //! The program: a grid record and a tape in, a Netpbm file and the count out.
 
-use crate::call::{answer, Answer};
+use crate::call::{Answer, answer};
 use crate::draw::{self, Grid};
-use crate::fault::{planted, Fault};
+use crate::fault::{Fault, planted};
 use crate::netpbm;
-use crate::tape::{refuse, Refused, Tape};
+use crate::tape::{Refused, Tape, refuse};
 use crate::walk;
 
 /// What comes of an input: number, place and count, the bytes on standard output and those on descriptor 2.

@@ -1,8 +1,8 @@
 //! The walk by tiles, with its count.
 
 use crate::draw::Grid;
-use crate::fault::{planted, Fault};
-use crate::seen::{note, Event};
+use crate::fault::{Fault, planted};
+use crate::seen::{Event, note};
 use crate::tape::Tape;
 
 const FLAT: [u32; 3] = [64, 8, 1];

@@ -1,10 +1,10 @@
 //! The solid drawing by tiles.
 
 use super::arith::Span;
-use super::run::{run_ranges, run_values, Slots};
+use super::run::{Slots, run_ranges, run_values};
 use super::shorten::shorten;
 use super::word::words;
-use super::{axis, sample, Choices, Level, CLAUSES};
+use super::{CLAUSES, Choices, Level, axis, sample};
 use layers::Grid;
 
 /// Draws into the picture, whatever it held, and returns the walk's count.

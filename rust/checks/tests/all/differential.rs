@@ -1,10 +1,10 @@
 //! The core against the slow drawing, call by call: answers, and every byte of every lent buffer, which start full of
 //! noise. Seeds are fixed and printed; LAYERS_CASES=n runs n cases of each kind.
 
-use checks::drawing::{Drawing, Series, ARITHMETIC, DAMAGED, RANDOM, SHAPES};
+use checks::drawing::{ARITHMETIC, DAMAGED, Drawing, RANDOM, SHAPES, Series};
 use checks::files::File;
 use checks::packing::{Packing, Unpacking};
-use checks::random::{cases, Random};
+use checks::random::{Random, cases};
 use slow::seen::{self, Event};
 
 /// In how many cases each thing was met.

@@ -1,9 +1,9 @@
 //! The checked-in examples: the parts as inputs of the program, and the use from C that the README shows.
 
 use checks::program;
+use std::fs;
 use std::path::{Path, PathBuf};
 use std::process::Command;
-use std::fs;
 
 fn in_repository(path: &str) -> PathBuf {
     Path::new(env!("CARGO_MANIFEST_DIR")).join("../..").join(path)

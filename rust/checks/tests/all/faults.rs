@@ -1,6 +1,6 @@
 //! Faults planted in the slow drawing, one at a time: the comparisons must catch each.
 
-use checks::drawing::{Drawing, ARITHMETIC, DAMAGED, RANDOM, SHAPES};
+use checks::drawing::{ARITHMETIC, DAMAGED, Drawing, RANDOM, SHAPES};
 use checks::files::File;
 use checks::packing::Packing;
 use checks::program;

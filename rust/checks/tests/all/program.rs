@@ -1,8 +1,8 @@
 //! The program against the slow one: on the inputs of every series, on damaged records, on short and closed pipes.
 
-use checks::drawing::{Series, ARITHMETIC, DAMAGED, RANDOM, SHAPES};
+use checks::drawing::{ARITHMETIC, DAMAGED, RANDOM, SHAPES, Series};
 use checks::program::{self, check, compare, damaged_input, flat_input, input};
-use checks::random::{cases, Random};
+use checks::random::{Random, cases};
 use slow::draw::Grid;
 use std::process::{Child, Command};
 use std::time::Duration;

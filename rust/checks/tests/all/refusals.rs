@@ -153,7 +153,8 @@ fn drawings() {
     ]);
     let mut noise = Random::seeded("drawings", 0x5EED_0020);
     try_all(&good_drawing(), &wrongs, |drawing, expected| {
-        let [full_flat, full_solid, tile_flat, tile_solid] = drawing.compare(&mut noise).unwrap_or_else(|e| panic!("{e}"));
+        let [full_flat, full_solid, tile_flat, tile_solid] =
+            drawing.compare(&mut noise).unwrap_or_else(|e| panic!("{e}"));
         assert_eq!([tile_flat, tile_solid], [expected; 2], "{drawing:?}");
         // a full drawing takes no work buffer
         let full = if expected.number == 13 { 0 } else { expected.number };
@@ -185,7 +186,9 @@ fn samples_at_the_ends() {
     let mut noise = Random::seeded("samples_at_the_ends", 0x5EED_0022);
     let m = i32::MAX;
     for axis in 0..3 {
-        for (origin, step, number) in [(-m, m, 0), (i32::MIN, m, 11), (-m, 1, 0), (m - 20, 10, 0), (m - 19, 10, 11), (m, 1, 11)] {
+        for (origin, step, number) in
+            [(-m, m, 0), (i32::MIN, m, 11), (-m, 1, 0), (m - 20, 10, 0), (m - 19, 10, 11), (m, 1, 11)]
+        {
             let mut drawing = good_drawing();
             drawing.grid.sizes = [3; 3];
             drawing = Drawing::new(drawing.tape, drawing.grid);

@@ -1,8 +1,8 @@
 //! An angle bracket: two plates at right angles, three ribs between them, two holes in each plate. It stands on its edge,
 //! as it would be printed, so that both plates are seen from above.
 
-use crate::shape::*;
 use crate::Design;
+use crate::shape::*;
 use std::f64::consts::FRAC_1_SQRT_2;
 
 /// The way along each plate from the edge, which is also the way through the other plate.

@@ -1,7 +1,7 @@
 //! A spur gear of 24 teeth, module 3: a rim, a thin web with holes, and a hub with a bore and a keyway.
 
-use crate::shape::*;
 use crate::Design;
+use crate::shape::*;
 use std::f64::consts::PI;
 
 const TEETH: usize = 24;

@@ -1,8 +1,8 @@
 //! The lower half of a housing for electronics: walls with a rim for the lid, bosses for its screws, ribs, feet for a
 //! board, a cable hole, air slots, and ears to screw it down.
 
-use crate::shape::*;
 use crate::Design;
+use crate::shape::*;
 
 const LONG: f64 = 36.0;
 const WIDE: f64 = 28.0;
@@ -40,9 +40,8 @@ const FOOT: (f64, f64) = (15.0, 11.0);
 /// Round posts for the lid's screws, each tied to both walls.
 fn bosses() -> Shape {
     let post = cylinder(Z, 4.5, 1.0, TALL - 4.0);
-    let ties = corners(BOSS.0 + 5.0, BOSS.1).map(|place| {
-        block([-5.0, -1.0, 1.0], [5.0, 1.0, TALL - 8.0]).translate(place)
-    });
+    let ties =
+        corners(BOSS.0 + 5.0, BOSS.1).map(|place| block([-5.0, -1.0, 1.0], [5.0, 1.0, TALL - 8.0]).translate(place));
     post.at_each(&corners(BOSS.0, BOSS.1)).and(union(ties))
 }
 

@@ -1,7 +1,7 @@
 //! A cube filled with an octet truss: struts along the diagonals of its faces, between a frame and a base plate.
 
-use crate::shape::*;
 use crate::Design;
+use crate::shape::*;
 
 /// The distance between neighbouring layers of nodes.
 const PITCH: f64 = 12.0;

@@ -1,7 +1,7 @@
 //! A name plate with raised letters, close to the greatest number of clauses.
 
-use crate::shape::*;
 use crate::Design;
+use crate::shape::*;
 
 const LINES: [&str; 5] = ["LEZANTSIRO", "LAYER CORE", "PARTS AS", "FORMULAS", "NO 1024"];
 
@@ -134,11 +134,9 @@ fn strokes(letter: char) -> Vec<Shape> {
         ],
         'T' => vec![stem(2.0), bar(0.0, 0.0, 4.0)],
         'U' => vec![loop_of(0.0, -3.0, 4.0, 6.0).within(rows(0.0, 9.0))],
-        'Y' => vec![
-            slant((0.0, 0.0), (1.5, 2.6)),
-            slant((2.5, 2.6), (4.0, 0.0)),
-            columns(2.0, 2.0).within(rows(2.6, 6.0)),
-        ],
+        'Y' => {
+            vec![slant((0.0, 0.0), (1.5, 2.6)), slant((2.5, 2.6), (4.0, 0.0)), columns(2.0, 2.0).within(rows(2.6, 6.0))]
+        }
         'Z' => vec![bar(0.0, 0.0, 4.0), slant((3.6, 0.0), (0.4, 6.0)), bar(6.0, 0.0, 4.0)],
         '1' => vec![stem(2.0), slant((0.8, 1.4), (2.0, 0.0))],
         '2' => vec![
