@@ -6,7 +6,7 @@ use Prim.Native.Nat.{ℕ, _≤_}
 use lib.ListN.{length, drop}
 use Rattle.rules.specs.Values.{isNeg, Box}
 use Rattle.rules.specs.Tapes.{rangeOver, shortened}
-use Rattle.rules.proofs.Accepted.{Accepted}
+use Rattle.rules.specs.Accepted.{Accepted}
 use Rattle.code.specs.Words.{tapeIn}
 use Rattle.code.specs.Runs.{Fit}
 use Rattle.drawing.specs.declared.verdict.Verdict.{Verdict}

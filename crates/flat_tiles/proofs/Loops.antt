@@ -4,7 +4,7 @@ use mathlib.Core.List.{List, [], _∷_, _++_}
 use Prim.Native.Nat.{ℕ, _+_, _-_, _*_, _%_, _≤_, _<_}
 use lib.ListN.{length}
 use Rattle.rules.specs.Drawings.{Region, visit, alongX, alongY}
-use Rattle.rules.proofs.Accepted.{Accepted}
+use Rattle.rules.specs.Accepted.{Accepted}
 use Rattle.code.specs.Words.{tapeIn}
 use Rattle.picture.specs.Bits.{Shows}
 use Rattle.picture.specs.declared.grid.Grid.{Grid}

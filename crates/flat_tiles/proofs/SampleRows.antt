@@ -10,7 +10,7 @@ use Rattle.rules.specs.Values.{pick}
 use Rattle.rules.specs.Tapes.{Tape, material}
 use Rattle.rules.specs.Drawings as D
 use Rattle.rules.proofs.Visit.{visit-sample}
-use Rattle.rules.proofs.Accepted.{Accepted}
+use Rattle.rules.specs.Accepted.{Accepted}
 use Rattle.code.specs.Words.{tapeIn}
 use Rattle.code.proofs.WordTapes.{length-clauses}
 use Rattle.picture.specs.Bits.{rowByteFrom, rowByte, markRow, Shows}

@@ -8,7 +8,7 @@ use lib.ListN.{length, getD, replicate}
 use Rattle.rules.specs.Tapes.{clauseLimit}
 use Rattle.rules.specs.Drawings.{gridFault, Region, sides, whole, children, fold, visit, alongY, walked}
 use Rattle.rules.specs.Pictures.{stride}
-use Rattle.rules.proofs.Accepted.{Accepted}
+use Rattle.rules.specs.Accepted.{Accepted}
 use Rattle.rules.proofs.Regions.{grid-fits}
 use Rattle.code.specs.Words.{tapeIn}
 use Rattle.code.proofs.WordTapes.{length-clauses}

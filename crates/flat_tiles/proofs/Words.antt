@@ -6,7 +6,7 @@ use native.Mathlib.Omega.{arith}
 use lib.ListN.{length, take, drop, length-drop}
 use lib.Seq.{take-length}
 use Rattle.rules.specs.Values.{Box}
-use Rattle.rules.proofs.Accepted.{Accepted}
+use Rattle.rules.specs.Accepted.{Accepted}
 use Rattle.rules.proofs.Short.{short-length}
 use Rattle.rules.proofs.ShortAccepted.{short-accepted}
 use Rattle.code.specs.Words.{tapeIn, Runnable}

@@ -7,7 +7,7 @@ use lib.ListN.{length}
 use Rattle.rules.specs.Tapes.{Tape, clauseLimit, material}
 use Rattle.rules.specs.Drawings as D
 use Rattle.rules.specs.Pictures.{stride, bitsOf}
-use Rattle.rules.proofs.Accepted.{Accepted}
+use Rattle.rules.specs.Accepted.{Accepted}
 use Rattle.code.specs.Words.{tapeIn}
 use Rattle.picture.specs.Bits.{Shows}
 use Rattle.picture.specs.Shapes.{gridIn}

@@ -8,7 +8,7 @@ ghost use mathlib.Core.Path.{_≡_};
 ghost use mathlib.Core.List.{[]};
 ghost use Prim.Native.Nat.{ℕ, _+_, _-_, _≤_};
 ghost use Rattle.rules.specs.Drawings.{alongX, alongY};
-ghost use Rattle.rules.proofs.Accepted.{Accepted};
+ghost use Rattle.rules.specs.Accepted.{Accepted};
 ghost use Rattle.code.specs.Words.{tapeIn};
 ghost use Rattle.picture.specs.Bits.{rowByte};
 ghost use Rattle.drawing.specs.Verdicts.{Sound};

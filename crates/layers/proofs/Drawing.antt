@@ -13,7 +13,8 @@ use Rattle.rules.specs.Tapes.{readTape, clauseLimit}
 use Rattle.rules.specs.Drawings as D
 use Rattle.rules.specs.Pictures.{picture, pictureSize}
 use Rattle.rules.proofs.Tests.{first-zero}
-use Rattle.rules.proofs.Accepted.{Accepted, accepted-tape}
+use Rattle.rules.specs.Accepted.{Accepted}
+use Rattle.rules.proofs.Accepted.{accepted-tape}
 use Rattle.code.specs.Words.{tapeIn, Runnable}
 use Rattle.code.specs.Runs.{Fit}
 use Rattle.code.specs.Unpacking.{Unpackable, Unpacked}

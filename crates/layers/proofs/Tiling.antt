@@ -10,7 +10,7 @@ use Rattle.rules.specs.Values.{pick, firstOf, when}
 use Rattle.rules.specs.Tapes.{readTape}
 use Rattle.rules.specs.Drawings as D
 use Rattle.rules.specs.Pictures.{bitsOf, picture}
-use Rattle.rules.proofs.Accepted.{Accepted}
+use Rattle.rules.specs.Accepted.{Accepted}
 use Rattle.code.specs.Words.{tapeIn}
 use Rattle.code.proofs.WordTapes.{unpacked-tape}
 use Rattle.picture.specs.Shapes.{gridIn}

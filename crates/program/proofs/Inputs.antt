@@ -20,7 +20,7 @@ use Rattle.picture.specs.Shapes.{gridIn}
 use Rattle.picture.specs.declared.grid.Grid.{Grid}
 use Rattle.program.specs.declared.Drawn.{Drawn}
 use Rattle.program.specs.declared.Said.{Said}
-use Rattle.program.specs.Says.{over, fileIf, LayerSays, FileSays, InputSays, OutputSays, ProgramSays}
+use Rattle.program.specs.Says.{startingWith, fileIf, LayerSays, FileSays, InputSays, OutputSays, ProgramSays}
 
 -- A record that passes is long enough; the tape is what stands behind it.
 pub long-enough : (s : List ℕ) → recordOk s ≡ true → recordLength ≤ length s
@@ -128,7 +128,7 @@ said-refused s o m o′ l u r f h p en ep ec el =
       count = ec;
       first-length = size ∙ ap length line;
       second-length = el;
-      first = Written.over p ∙ ap₂ over line same;
+      first = Written.at-start p ∙ ap₂ startingWith line same;
       second = refl;
     })
 
@@ -150,12 +150,12 @@ said-done s o o′ l l′ u r f h p en ep ec el =
       count = ec ∙ count;
       first-length = el ∙ f .size ∙ ap length file;
       second-length = size ∙ ap (λ c. length (countLine c)) count;
-      first = f .out ∙ ap (λ v. over v o) file;
-      second = Written.over p ∙ ap (λ c. over (countLine c) l) count;
+      first = f .out ∙ ap (λ v. startingWith v o) file;
+      second = Written.at-start p ∙ ap (λ c. startingWith (countLine c) l) count;
     })
 
 -- What is written fits where it is written.
-within : (x o o′ : List ℕ) (n : ℕ) → n ≡ length x → o′ ≡ over x o → n ≤ length o′
+within : (x o o′ : List ℕ) (n : ℕ) → n ≡ length x → o′ ≡ startingWith x o → n ≤ length o′
 within x o o′ n e p = omega (arith, ap length p ∙ length-append x (drop (length x) o))
 
 pub first-within : {x : Output} {o o′ l l′ : List ℕ} {r : Said} → OutputSays x o o′ l l′ r → r .length ≤ length o′

@@ -24,9 +24,9 @@ pub record PictureFits (isSolid : Bool) (d : Grid) (n r : ℕ) : Type 0 where
   pub size : D.gridFault isSolid (gridIn d isSolid) ≡ 0 → r ≡ pictureSize isSolid (gridIn d isSolid)
   pub most : r ≤ n
 
--- A list written over the start of a buffer; what is behind it stays.
-abbrev pub over : List ℕ → List ℕ → List ℕ
-over f o = f ++ drop (length f) o
+-- A buffer with a list written at its start; what is behind it stays.
+abbrev pub startingWith : List ℕ → List ℕ → List ℕ
+startingWith f o = f ++ drop (length f) o
 
 -- The file of a drawing with the number n: none where it is refused.
 abbrev pub fileIf : ℕ → Got → D.Grid → List ℕ
@@ -38,7 +38,7 @@ pub record LayerSays (n : ℕ) (t : Got) (g : D.Grid) (o o′ : List ℕ) (r : D
   pub place : r .place ≡ pick (leb 5 n && leb n 9) (t .place) 0
   pub count : r .count ≡ pick (eqb n 0) (D.walked (t .tape) g .clauses) 0
   pub size : r .length ≡ length (fileIf n t g)
-  pub out : o′ ≡ over (fileIf n t g) o
+  pub out : o′ ≡ startingWith (fileIf n t g) o
 
 -- Flat or solid, without 15 and 16: "Drawing checks 1 to 4, then 5 to 9 clause by clause, then 10 to 13"; 12 and 13 never come.
 abbrev pub FileSays : Bool → List ℕ → Grid → List ℕ → List ℕ → Drawn → Type 0
@@ -56,8 +56,8 @@ pub record OutputSays (x : Output) (o o′ l l′ : List ℕ) (r : Said) : Type 
   pub count : r .count ≡ x .count
   pub first-length : r .length ≡ length (x .first)
   pub second-length : r .line ≡ length (x .second)
-  pub first : o′ ≡ over (x .first) o
-  pub second : l′ ≡ over (x .second) l
+  pub first : o′ ≡ startingWith (x .first) o
+  pub second : l′ ≡ startingWith (x .second) l
 
 abbrev pub ProgramSays : List ℕ → List ℕ → List ℕ → List ℕ → List ℕ → Said → Type 0
 ProgramSays s o o′ l l′ r = OutputSays (programOf s) o o′ l l′ r

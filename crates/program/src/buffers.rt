@@ -1,21 +1,20 @@
-// The program's own buffers. Their contracts tell the length alone, so that no proof meets thousands of zeros.
+// The program's own buffers. Those that stay inside tell their length alone, so that no proof meets thousands of zeros.
 use crate::INPUT;
 use layers::WORK_LIMIT;
 ghost use mathlib.Core.Path.{_≡_};
-ghost use lib.ListN.{length};
-ghost use Rattle.rules.specs.Program.{inputLimit};
-
-// Room for as much of an input as decides what becomes of it.
-pub fn input_room() -> [u8; INPUT]
-    ensures { λ r. ⌜ inputLimit ≡ length r ⌝ }
-{
-    [0; INPUT]
-}
-
+ghost use lib.ListN.{length, replicate};
 ghost use Rattle.rules.specs.Drawings.{workLimit};
+ghost use Rattle.rules.specs.Program.{inputLimit};
 
 // The pixels of the largest solid, 128 by 128.
 const HEIGHTS: usize = 16384;
+
+// Room for as much of an input as decides what becomes of it.
+pub fn input_room() -> [u8; INPUT]
+    ensures { λ r. ⌜ r ≡ replicate inputLimit 0 ⌝ }
+{
+    [0; INPUT]
+}
 
 // A work buffer. The largest flat picture, 512 rows of 64 bytes, is just as long.
 pub fn zero_bytes() -> [u8; WORK_LIMIT]

@@ -30,8 +30,9 @@ tape t cs = record { given = listOf (t .clauses); said = listOf cs }
 abbrev pub minus : ℕ → ℤ
 minus n = negℤ (pos n)
 
-abbrev pub over : ℤ → ℤ → Box
-over a b = record { xs = range a b; ys = noRange; zs = noRange }
+-- The box of the figures: x from a to b, no y or z read.
+abbrev pub onX : ℤ → ℤ → Box
+onX a b = record { xs = range a b; ys = noRange; zs = noRange }
 
 -- x in slot 0; constant 0 in 1; minimum of 0, 1 into 1; constant −10 in 2; minimum of 2, 1 into 0.
 abbrev pub five : Tape
@@ -72,7 +73,7 @@ starred =
     ∷ (interval (productR (range (minus 1) (pos 1)) (range (minus 1) (pos 1))) (minus 1) (pos 0)
     ∷ (choice (choiceOf 12 (range (pos 0) (pos 4)) (range (pos 5) (pos 9))) 1
     ∷ (choice (choiceOf 12 (range (pos 0) (pos 5)) (range (pos 5) (pos 9))) 0
-    ∷ (tape (shortened five (over (pos 5) (pos 9))) (clause 0 2 0 0 (minus 10) ∷ (clause 4 0 2 0 (pos 0) ∷ []))
+    ∷ (tape (shortened five (onX (pos 5) (pos 9))) (clause 0 2 0 0 (minus 10) ∷ (clause 4 0 2 0 (pos 0) ∷ []))
     ∷ []))))))))))))))))
 
 -- Rules that the paper words and gives no figure for.
@@ -91,7 +92,7 @@ worded =
     ∷ (choice (choiceOf 13 (range (pos 5) (pos 9)) (range (pos 0) (pos 4))) 1
     ∷ (choice (choiceOf 13 (range (pos 0) (pos 4)) (range (pos 5) (pos 9))) 2
     ∷ (choice (choiceOf 9 (range (pos 0) (pos 4)) (range (pos 5) (pos 9))) 0
-    ∷ (tape (shortened four (over (pos 5) (pos 9)))
+    ∷ (tape (shortened four (onX (pos 5) (pos 9)))
     (clause 1 0 0 0 (pos 0) ∷ (clause 0 1 0 0 (pos 0) ∷ (clause 9 1 1 0 (pos 0) ∷ [])))
     ∷ [])))))))))))))
 

@@ -69,7 +69,7 @@ raised-visited {t} {g} {r} {h} {h′} l e a =
         let top = topIn t g r (q .x) (q .y) in
         let under = top-least (r .k) n t g (q .x) (q .y) (getD h′ p 0)
         (λ z i k s. a .above p z m (pixel-hit q l z i (omega arith) s)) in
-        let over = a .least p (max (getD h p 0) top) m (omega arith)
+        let most = a .least p (max (getD h p 0) top) m (omega arith)
         (λ z i. let s = hit-layer t g r p q z i in
         omega (arith, top-above (r .k) n t g (q .x) (q .y) z (s .0) (omega arith) (s .2))) in
         omega (arith, a .from p m)

@@ -1,7 +1,8 @@
--- What must hold, to be read against the scope paper: fixed-point values and ranges, tapes, drawings, pictures and their
--- files, the program, and the demands.
+-- What must hold, to be read against the scope paper: fixed-point values and ranges, tapes and what makes one accepted,
+-- drawings, pictures and their files, the program, and the demands.
 pub mod Values
 pub mod Tapes
+pub mod Accepted
 pub mod Drawings
 pub mod Pictures
 pub mod Program

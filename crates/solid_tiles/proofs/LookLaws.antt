@@ -8,7 +8,7 @@ use lib.ListN.{length, take, drop, length-drop}
 use lib.Seq.{take-all}
 use Rattle.rules.specs.Values.{Box}
 use Rattle.rules.specs.Drawings.{Region, boxOf, fold, visit, children, alongZ, gridFault}
-use Rattle.rules.proofs.Accepted.{Accepted}
+use Rattle.rules.specs.Accepted.{Accepted}
 use Rattle.rules.proofs.ShortAccepted.{short-accepted}
 use Rattle.code.specs.Words.{tapeIn, Runnable}
 use Rattle.code.specs.Runs.{Fit}

@@ -8,7 +8,7 @@ use native.Mathlib.Nat.{mul-le-mul-right, le-of-mul-le-mul-right, lt-of-mul-lt-m
 use native.Mathlib.Omega.{arith}
 use lib.ListN.{length}
 use Rattle.rules.specs.Drawings.{Region, fold, visit}
-use Rattle.rules.proofs.Accepted.{Accepted}
+use Rattle.rules.specs.Accepted.{Accepted}
 use Rattle.code.specs.Words.{tapeIn}
 use Rattle.picture.specs.Shapes.{gridIn}
 use Rattle.picture.specs.declared.grid.Grid.{Grid}

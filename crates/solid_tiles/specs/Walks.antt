@@ -5,7 +5,7 @@ use mathlib.Core.Bool.{true, false}
 use mathlib.Core.List.{List, [], _∷_}
 use Prim.Native.Nat.{ℕ, _≤_}
 use Rattle.rules.specs.Drawings.{Region, boxOf, fold, visit, walked}
-use Rattle.rules.proofs.Accepted.{Accepted}
+use Rattle.rules.specs.Accepted.{Accepted}
 use Rattle.code.specs.Words.{tapeIn}
 use Rattle.picture.specs.Shapes.{gridIn}
 use Rattle.picture.specs.declared.grid.Grid.{Grid}

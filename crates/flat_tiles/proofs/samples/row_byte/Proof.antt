@@ -4,7 +4,7 @@ use Prim.Native.Nat.{ℕ, _-_, _≤_}
 use native.Mathlib.Omega.{arith}
 use Rattle.rules.specs.Tapes.{valueAt, material}
 use Rattle.rules.specs.Drawings.{sampleAt}
-use Rattle.rules.proofs.Accepted.{Accepted}
+use Rattle.rules.specs.Accepted.{Accepted}
 use Rattle.drawing.proofs.Signs.{sign}
 use Rattle.code.specs.Words.{tapeIn}
 use Rattle.picture.specs.Bits.{rowByte}
