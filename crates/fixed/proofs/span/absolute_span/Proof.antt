@@ -24,15 +24,28 @@ low-size-requires c κs = search needs
 maximum-requires : tie.Need-maximum-requires
 maximum-requires c κs = search needs
 
+-- The places that facts are taken at, each from the next one behind it.
+abbrev at-start : tie.After-struct-told → tie.Start
+at-start c = c .before
+
+abbrev at-struct-told : tie.After-absolute2 → tie.After-struct-told
+at-struct-told c = c .before .before .before
+
+abbrev at-absolute2 : tie.After-minimum → tie.After-absolute2
+at-absolute2 c = c .before
+
+abbrev at-minimum : tie.After-maximum → tie.After-minimum
+at-minimum c = c .before .before .before .before
+
 returns : tie.Need-returns
 unfolding absoluteR
 returns c =
-    let sizes = c .before .before .before .before .before in
-    let a = sizes .before .before .before .before .args .a in
-    let f = fit {s = a} (sizes .before .before .before .struct-told .given) in
+    let sizes = at-absolute2 (at-minimum c) in
+    let a = at-start (at-struct-told sizes) .args .a in
+    let f = fit {s = a} (at-struct-told sizes .struct-told .given) in
     let first = sizes .before .before .absolute in
     let last = sizes .absolute2 in
-    let m = c .before .before .before .before .minimum in
+    let m = at-minimum c .minimum in
     let l = c .before .low-size in
     let h = c .maximum in
     let e-first = back-one w32 absolute (first .result) (first .ok) (first .ensures) (toZ-ofZ (f .low)) in

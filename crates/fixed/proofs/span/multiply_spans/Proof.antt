@@ -35,24 +35,49 @@ greatest-requires c κs = search needs
 round-requires-2 : tie.Need-round-requires-2
 round-requires-2 c κs = search needs
 
+-- The places that facts are taken at, each from the next one behind it.
+abbrev at-start : tie.After-struct-told → tie.Start
+at-start c = c .before
+
+abbrev at-struct-told : tie.After-struct-told2 → tie.After-struct-told
+at-struct-told c = c .before
+
+abbrev at-struct-told2 : tie.After-exact-product → tie.After-struct-told2
+at-struct-told2 c = c .before
+
+abbrev at-exact-product : tie.After-exact-product2 → tie.After-exact-product
+at-exact-product c = c .before .before .before
+
+abbrev at-exact-product2 : tie.After-exact-product3 → tie.After-exact-product2
+at-exact-product2 c = c .before .before .before
+
+abbrev at-exact-product3 : tie.After-exact-product4 → tie.After-exact-product3
+at-exact-product3 c = c .before .before .before
+
+abbrev at-exact-product4 : tie.After-least → tie.After-exact-product4
+at-exact-product4 c = c .before
+
+abbrev at-least : tie.After-round2 → tie.After-least
+at-least c = c .before .before .before
+
 returns : tie.Need-returns
 unfolding product productR
 returns c =
-    let products = c .before .before .before .before in
-    let start = products .before .before .before .before .before .before .before .before .before .before .before .before in
+    let products = at-exact-product4 (at-least c) in
+    let start = at-start (at-struct-told (at-struct-told2 (at-exact-product (at-exact-product2 (at-exact-product3 products))))) in
     let a = start .args .a in
     let b = start .args .b in
-    let f = fit {s = a} (products .before .before .before .before .before .before .before .before .before .before .before .struct-told .given) in
-    let g = fit {s = b} (products .before .before .before .before .before .before .before .before .before .before .struct-told2 .given) in
-    let p = products .before .before .before .before .before .before .before .before .before .exact-product in
-    let q = products .before .before .before .before .before .before .exact-product2 in
-    let s = products .before .before .before .exact-product3 in
+    let f = fit {s = a} (at-struct-told (at-struct-told2 (at-exact-product (at-exact-product2 (at-exact-product3 products)))) .struct-told .given) in
+    let g = fit {s = b} (at-struct-told2 (at-exact-product (at-exact-product2 (at-exact-product3 products))) .struct-told2 .given) in
+    let p = at-exact-product (at-exact-product2 (at-exact-product3 products)) .exact-product in
+    let q = at-exact-product2 (at-exact-product3 products) .exact-product2 in
+    let s = at-exact-product3 products .exact-product3 in
     let t = products .exact-product4 in
     let ep = back-two w64 _*ℤ_ (p .result) (p .ok) (p .ensures) (toZ-ofZ (f .low)) (toZ-ofZ (g .low)) in
     let eq = back-two w64 _*ℤ_ (q .result) (q .ok) (q .ensures) (toZ-ofZ (f .low)) (toZ-ofZ (g .high)) in
     let es = back-two w64 _*ℤ_ (s .result) (s .ok) (s .ensures) (toZ-ofZ (f .high)) (toZ-ofZ (g .low)) in
     let et = back-two w64 _*ℤ_ (t .result) (t .ok) (t .ensures) (toZ-ofZ (f .high)) (toZ-ofZ (g .high)) in
-    let m = c .before .before .before .least in
+    let m = at-least c .least in
     let n = c .before .greatest in
     let l = c .before .before .round in
     let h = c .round2 in

@@ -27,19 +27,38 @@ first-place-requires c κs = search needs
 div-put-digit : tie.Need-div-put-digit Inv-loop μ-loop
 div-put-digit c = omega (arith, positive (c .before .first-place .ensures .0))
 
+-- The places that facts are taken at, each from the next one behind it.
+abbrev at-start : tie.After-first-place Inv-loop μ-loop → tie.Start Inv-loop μ-loop
+at-start c = c .before .before
+
+abbrev at-first-place : tie.After-put-digit-arg Inv-loop μ-loop → tie.After-first-place Inv-loop μ-loop
+at-first-place c = c .before
+
+abbrev at-put-digit-arg : tie.After-put-digit Inv-loop μ-loop → tie.After-put-digit-arg Inv-loop μ-loop
+at-put-digit-arg c = c .before
+
+abbrev at-put-digit : tie.After-slice-known2 Inv-loop μ-loop → tie.After-put-digit Inv-loop μ-loop
+at-put-digit c = c .before .before
+
+abbrev at-slice-known2 : tie.At-loop Inv-loop μ-loop → tie.After-slice-known2 Inv-loop μ-loop
+at-slice-known2 c = c .before
+
+abbrev at-loop : tie.After-put-digit2 Inv-loop μ-loop → tie.At-loop Inv-loop μ-loop
+at-loop c = c .before .before .before
+
 put-digit-requires : tie.Need-put-digit-requires Inv-loop μ-loop
 put-digit-requires c κs =
-    let s = c .before .before .before in
+    let s = at-start (at-first-place c) in
     omega (arith, least-length (s .args .v) (omega arith))
 
 -- Written up to the loop's place.
-begun : (c : tie.At-loop Inv-loop μ-loop) → Appends (c .before .before .before .before .before .before .before .args .out .now) (c .before .before .before .before .before .before .before .args .at) (numeral (c .before .before .before .before .before .before .before .args .v / c .loop .place)) (c .loop .out) (c .loop .next)
+begun : (c : tie.At-loop Inv-loop μ-loop) → Appends (at-start (at-first-place (at-put-digit-arg (at-put-digit (at-slice-known2 c)))) .args .out .now) (at-start (at-first-place (at-put-digit-arg (at-put-digit (at-slice-known2 c)))) .args .at) (numeral (at-start (at-first-place (at-put-digit-arg (at-put-digit (at-slice-known2 c)))) .args .v / c .loop .place)) (c .loop .out) (c .loop .next)
 begun c =
-    let d = c .before .before .before in
+    let d = at-put-digit (at-slice-known2 c) in
     c .loop .inv .1 _ _ (renamed (sym (digit _ (d .before .before .first-place .ensures .1))) (d .put-digit .ensures))
 
 loop-holds : tie.Need-loop-holds Inv-loop μ-loop
-loop-holds c = (c .before .before .before .before .first-place .ensures .0, λ o a p. p)
+loop-holds c = (at-first-place (at-put-digit-arg (at-put-digit c)) .first-place .ensures .0, λ o a p. p)
 
 div-put-digit-2 : tie.Need-div-put-digit-2 Inv-loop μ-loop
 div-put-digit-2 c = omega arith
@@ -55,7 +74,7 @@ loop-less c = omega arith
 loop-again : tie.Need-loop-again Inv-loop μ-loop
 loop-again c =
     let d = c .before .before in
-    let l = d .before .before .before in
+    let l = at-loop d in
     let place = l .loop .inv .0 in
     (place-down place (omega arith), λ o a p. renamed (sym (digit-more place (omega arith) (omega arith))) (then (l .loop .inv .1 o a p) (d .put-digit2 .ensures)))
 

@@ -12,14 +12,24 @@ use Rattle.netpbm.proofs.file.put_row.Tie as tie
 sub-last : tie.Need-sub-last
 sub-last c = search needs
 
+-- The places that facts are taken at, each from the next one behind it.
+abbrev at-start : tie.After-put-arg2 → tie.Start
+at-start c = c .before .before .before .before
+
+abbrev at-put-arg2 : tie.After-put → tie.After-put-arg2
+at-put-arg2 c = c .before
+
+abbrev at-put : tie.After-last-mask → tie.After-put
+at-put c = c .before .before .before .before
+
 slice-aggregate-put : tie.Need-slice-aggregate-put
 slice-aggregate-put c =
-    let s = c .before .before .before .before in
+    let s = at-start c in
     sym (length-front (s .args .row .now))
 
 put-requires : tie.Need-put-requires
 put-requires c κs =
-    let s = c .before .before .before .before in
+    let s = at-start c in
     omega (arith, s .pre, length-front (s .args .row .now))
 
 shared-slice-read-out : tie.Need-shared-slice-read-out
@@ -30,12 +40,12 @@ last-mask-requires c κs = search needs
 
 slice-write-out : tie.Need-slice-write-out
 slice-write-out c =
-    let s = c .before .before .before .before .before .before .before .before .before in
+    let s = at-start (at-put-arg2 (at-put c)) in
     omega (arith, s .pre, length-front (s .args .row .now))
 
 add-result : tie.Need-add-result
 add-result c =
-    let s = c .before .before .before .before .before .before .before .before .before in
+    let s = at-start (at-put-arg2 (at-put c)) in
     omega (arith, s .pre, s .good, length-front (s .args .row .now))
 
 same-length : tie.Need-same-length
@@ -43,8 +53,8 @@ same-length c = search needs
 
 returns : tie.Need-returns
 returns c =
-    let p = c .before .before .before .before in
-    let s = p .before .before .before .before .before in
+    let p = at-put c in
+    let s = at-start (at-put-arg2 p) in
     let row = s .args .row .now in
     let last = length row - 1 in
     let byte = c .before .shared-slice-known2 .given last in

@@ -16,14 +16,36 @@ put-number-requires c κs =
 slice-aggregate-put : tie.Need-slice-aggregate-put
 slice-aggregate-put c = search needs
 
+-- The places that facts are taken at, each from the next one behind it.
+abbrev at-start : tie.After-put-number → tie.Start
+at-start c = c .before .before .before
+
+abbrev at-put-number : tie.After-put-arg2 → tie.After-put-number
+at-put-number c = c .before .before .before .before
+
+abbrev at-put-arg2 : tie.After-put → tie.After-put-arg2
+at-put-arg2 c = c .before
+
+abbrev at-put : tie.After-put-number-arg2 → tie.After-put
+at-put c = c .before .before .before
+
+abbrev at-put-number-arg2 : tie.After-put-number2 → tie.After-put-number-arg2
+at-put-number-arg2 c = c .before
+
+abbrev at-put-number2 : tie.After-put-arg4 → tie.After-put-number2
+at-put-number2 c = c .before .before .before .before
+
+abbrev at-put-arg4 : tie.After-put2 → tie.After-put-arg4
+at-put-arg4 c = c .before
+
 put-requires : tie.Need-put-requires
 put-requires c κs =
-    let s = c .before .before .before .before .before .before .before .args in
+    let s = at-start (at-put-number c) .args in
     omega (arith, ap length (as-size (s .width) (omega arith)))
 
 put-number-requires-2 : tie.Need-put-number-requires-2
 put-number-requires-2 c κs =
-    let s = c .before .before .before .before .before .before .before .before .before .before .before .args in
+    let s = at-start (at-put-number (at-put-arg2 (at-put c))) .args in
     omega (arith, ap length (as-size (s .width) (omega arith)), ap length (as-size (s .height) (omega arith)))
 
 slice-aggregate-put-2 : tie.Need-slice-aggregate-put-2
@@ -31,7 +53,7 @@ slice-aggregate-put-2 c = search needs
 
 put-requires-2 : tie.Need-put-requires-2
 put-requires-2 c κs =
-    let s = c .before .before .before .before .before .before .before .before .before .before .before .before .before .before .before .before .args in
+    let s = at-start (at-put-number (at-put-arg2 (at-put (at-put-number-arg2 (at-put-number2 c))))) .args in
     omega (arith, ap length (as-size (s .width) (omega arith)), ap length (as-size (s .height) (omega arith)))
 
 same-length : tie.Need-same-length
@@ -40,10 +62,10 @@ same-length c = search needs
 returns : tie.Need-returns
 returns c =
     let end = c .before .before in
-    let height = end .before .before .before .before .before in
-    let space = height .before .before .before .before in
-    let width = space .before .before .before .before .before in
-    let s = width .before .before .before .args in
+    let height = at-put-number2 (at-put-arg4 end) in
+    let space = at-put (at-put-number-arg2 height) in
+    let width = at-put-number (at-put-arg2 space) in
+    let s = at-start width .args in
     then
     (renamed (as-size (s .width) (omega arith)) (width .put-number .ensures))
     (then (space .put .ensures) (then (renamed (as-size (s .height) (omega arith)) (height .put-number2 .ensures)) (end .put2 .ensures)))

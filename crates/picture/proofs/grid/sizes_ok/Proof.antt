@@ -14,7 +14,17 @@ size-ok-requires c κs = search needs
 width-ok : (c : tie.Else1) → sizeOk (c .before .before .args .grid .width) ≡ true
 width-ok c = passed _ (c .before .size-ok .ensures) (c .if1 .left)
 
-height-ok : (c : tie.Else2) → sizeOk (c .before .before .before .before .args .grid .height) ≡ true
+-- The places that facts are taken at, each from the next one behind it.
+abbrev at-start : tie.Else1 → tie.Start
+at-start c = c .before .before
+
+abbrev at-else1 : tie.Else2 → tie.Else1
+at-else1 c = c .before .before
+
+abbrev at-else2 : tie.After-size-ok3 → tie.Else2
+at-else2 c = c .before .before
+
+height-ok : (c : tie.Else2) → sizeOk (at-start (at-else1 c) .args .grid .height) ≡ true
 height-ok c = passed _ (c .before .size-ok2 .ensures) (c .if2 .left)
 
 returns : tie.Need-returns
@@ -28,8 +38,8 @@ returns-2 c = goes-on (width-ok (c .before .before)) (stops _ (refused _ (c .bef
 
 returns-3 : tie.Need-returns-3
 returns-3 c =
-    let a = c .before .before .before .before .before .args in
-    goes-on (width-ok (c .before .before .before))
+    let a = at-start (at-else1 (c .before)) .args in
+    goes-on (width-ok (at-else1 (c .before)))
     (goes-on (height-ok (c .before)) (flat-size (a .solid) (a .grid .depth) (c .if3 .taken)))
 
 size-ok-requires-3 : tie.Need-size-ok-requires-3
@@ -37,8 +47,8 @@ size-ok-requires-3 c κs = search needs
 
 returns-4 : tie.Need-returns-4
 returns-4 c =
-    let a = c .before .before .before .before .before .before .args in
-    goes-on (width-ok (c .before .before .before .before))
+    let a = at-start (at-else1 (at-else2 c)) .args in
+    goes-on (width-ok (at-else1 (at-else2 c)))
     (goes-on (height-ok (c .before .before))
     (solid-size (a .solid) (a .grid .depth) (c .before .if3 .left) (c .size-ok3 .ensures)))
 
