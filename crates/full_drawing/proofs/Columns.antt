@@ -1,8 +1,9 @@
--- A column of samples, from the greatest z down: one turn of the loop over it.
+-- A column of samples, from the least z up: one turn of the loop over it.
 use mathlib.Core.Path.{_≡_, refl, sym, ap, _∙_}
 use mathlib.Core.Bool.{true, false}
 use mathlib.Core.List.{List}
-use Prim.Native.Nat.{ℕ, suc, _-_, _≤_, _<_}
+use Prim.Native.Nat.{ℕ, suc, _+_, _≤_, _<_}
+use native.Mathlib.Numerals.{add-one}
 use native.Mathlib.Omega.{arith}
 use Rattle.rules.specs.Values.{pick}
 use Rattle.rules.specs.Tapes.{Tape, material}
@@ -30,42 +31,34 @@ pub column-none : (t : Tape) (g : D.Grid) (i j : ℕ) → columnFrom 0 t g i j �
 unfolding columnFrom
 column-none t g i j = refl
 
-one-less : (k : ℕ) → 0 < k → suc (k - 1) ≡ k
-one-less k l = omega arith
-
--- Before the layers below k: no layer from k on has material.
-pub record Down (ws : List ℕ) (g : D.Grid) (i j k : ℕ) : Type 0 where
+-- Before layer k: the layers below k alone give the height h.
+pub record Climbed (ws : List ℕ) (g : D.Grid) (i j k h : ℕ) : Type 0 where
   pub below : k ≤ layers g
-  pub same : (n : ℕ) → Fit n ws → columnFrom k (tapeIn n ws) g i j ≡ columnFrom (layers g) (tapeIn n ws) g i j
+  pub same : (n : ℕ) → Fit n ws → h ≡ columnFrom k (tapeIn n ws) g i j
 
 module _ {ws : List ℕ} {g : D.Grid} {i j : ℕ} where
-  pub start-down : (k : ℕ) → k ≡ layers g → Down ws g i j k
-  start-down k e = record { below = omega arith; same = λ n f. ap (λ m. columnFrom m (tapeIn n ws) g i j) e }
+  pub start-climb : Climbed ws g i j 0 0
+  start-climb = record { below = omega arith; same = λ n f. sym (column-none (tapeIn n ws) g i j) }
 
-  pub found-down : (k : ℕ) → 0 < k → Down ws g i j k → Says ws (sampleAt g i j (k - 1)) true → Height ws g i j k
-  found-down k l d s =
-      record {
-        height = λ n f.
-            sym (column-found (k - 1) (tapeIn n ws) g i j (s .material n f) ∙ one-less k l)
-            ∙ ap (λ m. columnFrom m (tapeIn n ws) g i j) (one-less k l) ∙ d .same n f;
-      }
-
-  pub next-down : (k : ℕ) → 0 < k → Down ws g i j k → Says ws (sampleAt g i j (k - 1)) false → Down ws g i j (k - 1)
-  next-down k l d s =
+  pub next-found : (k : ℕ) → k < layers g → Says ws (sampleAt g i j k) true → Climbed ws g i j (k + 1) (k + 1)
+  next-found k l s =
       record {
         below = omega arith;
-        same = λ n f.
-            sym (column-passed (k - 1) (tapeIn n ws) g i j (s .material n f))
-            ∙ ap (λ m. columnFrom m (tapeIn n ws) g i j) (one-less k l) ∙ d .same n f;
+        same = λ n f. rw (add-one k) (sym (column-found k (tapeIn n ws) g i j (s .material n f)));
       }
 
-  pub none-down : (k : ℕ) → k ≤ 0 → Down ws g i j k → Height ws g i j 0
-  none-down k l d =
-      let e : 0 ≡ k = omega arith in
+  pub next-passed : (k h : ℕ) → k < layers g → Climbed ws g i j k h → Says ws (sampleAt g i j k) false
+      → Climbed ws g i j (k + 1) h
+  next-passed k h l c s =
       record {
-        height = λ n f.
-            sym (column-none (tapeIn n ws) g i j) ∙ ap (λ m. columnFrom m (tapeIn n ws) g i j) e ∙ d .same n f;
+        below = omega arith;
+        same = λ n f. rw (add-one k) (c .same n f ∙ sym (column-passed k (tapeIn n ws) g i j (s .material n f)));
       }
+
+  pub climbed : (k h : ℕ) → layers g ≤ k → Climbed ws g i j k h → Height ws g i j h
+  climbed k h l c =
+      let e : k ≡ layers g = omega arith in
+      record { height = λ n f. c .same n f ∙ ap (λ m. columnFrom m (tapeIn n ws) g i j) e }
 
 -- A solid grid's layers and samples, as the code has them; its samples are values.
 module _ (grid : Grid) (a : Accepted grid true) where

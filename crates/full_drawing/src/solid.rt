@@ -11,22 +11,23 @@ ghost use Rattle.rules.specs.Tapes.{clauseLimit};
 ghost use Rattle.picture.specs.Shapes.{gridIn};
 ghost use Rattle.full_drawing.specs.Full.{Drawable, Height, heightRow, Put, FullDrawn};
 
-// The height of pixel i of row j: from the greatest z down, to the first sample with material.
+// The height of pixel i of row j: every sample of its column is run, upward, and the last with material stays.
 fn column(code: &[u64], grid: Grid, i: u32, j: u32) -> u16
     requires { ⌜ Drawable true (now code) (gridIn grid true) ⌝ }
     requires { ⌜ (i < grid .width) × (j < grid .height) ⌝ }
     ensures { λ r. ⌜ Height (now (code .entry)) (gridIn grid true) i j r ⌝ }
 {
-    let mut k = grid.depth;
-    while 0 < k {
-        let below = k - 1;
-        let z = sample(grid.zfirst, grid.zstep, below);
+    let mut height = 0;
+    let mut k = 0;
+    while k < grid.depth {
+        let z = sample(grid.zfirst, grid.zstep, k);
+        let above = k + 1;
         if has_material(code, grid, i, j, z) {
-            return k as u16;
+            height = above as u16;
         }
-        k = below;
+        k = above;
     }
-    0
+    height
 }
 
 // Row j, put from `from` on.
