@@ -76,7 +76,8 @@ const LEAST: i32 = -i32::MAX;
 const GREATEST: i32 = i32::MAX;
 
 refusals! {
-    /// A line of the core's table of refusals, in the table's order: the first has number 1. Clauses are counted from 0.
+    /// A line of the core's table of refusals, in the table's order: the first has number 1. Clauses are counted
+    /// from 0.
     ///
     /// A [`Tape`](crate::Tape) meets lines 1 to 9, a drawing of it 10 and 11. Lines 12 to 14 are about lent memory, so
     /// only the calls of [`raw`](crate::raw) meet them, and 15 and 16 are about the input of the program `drawlayer`.
