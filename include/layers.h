@@ -8,13 +8,20 @@
  * and the whole work buffer is 0. Any other number is a line of the table of refusals: nothing lent has changed, count is 0,
  * and place is the clause at fault for numbers 5 to 9, otherwise 0.
  *
- *   1 tape below 8 bytes                  8 a used constant of -2147483648
- *   2 head mark, edition, spare bytes     9 a slot read that no earlier clause wrote
- *   3 slot or clause count out of range  10 a size not 1 to 512
- *   4 length of the tape or list         11 a step below 1, or a sample outside -2147483647 to 2147483647
- *   5 clause mark or opcode              12 picture buffer not of the exact length
- *   6 a used slot field out of range     13 work buffer below 32768 bytes
- *   7 an unused field not 0              14 output not of the exact length
+ *    1 tape below 8 bytes
+ *    2 head mark, edition or spare bytes wrong
+ *    3 slot or clause count out of range
+ *    4 tape length not 8 + 10*clauses; list length not a multiple of 5
+ *    5 clause mark wrong, or opcode not 0 to 13
+ *    6 a used slot field below 0, or not below the slot count
+ *    7 an unused field not 0
+ *    8 a used constant of -2,147,483,648
+ *    9 a slot read that no earlier clause wrote
+ *   10 a size not 1 to 512
+ *   11 a step below 1, or an origin, z or last sample outside -2,147,483,647 to 2,147,483,647
+ *   12 picture buffer not of the exact length
+ *   13 work buffer below 32,768 bytes
+ *   14 packing, unpacking or file: output not of the exact length
  */
 #ifndef LAYERS_H
 #define LAYERS_H

@@ -1,8 +1,7 @@
 //! One drawing of a part, by each way: the core's tiles, the plain walk, the core's full drawing.
 
 use crate::plain;
-use layers::Grid;
-use layers::raw;
+use layers::{Grid, Tape, raw};
 
 /// A flat or a solid drawing.
 #[derive(Clone, Copy, PartialEq, Eq)]
@@ -41,7 +40,8 @@ impl Canvas {
     }
 
     /// Draws the tape, and returns the count of clauses.
-    pub fn draw(&mut self, way: Way, tape: &[u8]) -> u64 {
+    pub fn draw(&mut self, way: Way, tape: &Tape) -> u64 {
+        let tape = tape.as_bytes();
         let answer = match (self.kind, way) {
             (Kind::Flat, Way::Plain) => return plain::tile_flat(tape, self.grid, &mut self.bits),
             (Kind::Solid, Way::Plain) => return plain::tile_solid(tape, self.grid, &mut self.heights),
@@ -53,6 +53,7 @@ impl Canvas {
         assert_eq!(answer.number, 0, "refused at clause {}", answer.place);
         answer.count
     }
+
     pub fn same_picture(&self, other: &Canvas) -> bool {
         self.bits == other.bits && self.heights == other.heights
     }

@@ -12,14 +12,13 @@ pub use flat::tile_flat;
 pub use solid::tile_solid;
 pub use word::words;
 
-/// The greatest number of clauses.
-const CLAUSES: usize = 1024;
+use layers::MAX_CLAUSES;
 
 /// The short tape of one level of the walk; its words end at the buffer's end.
-type Level = [u64; CLAUSES];
+type Level = [u64; MAX_CLAUSES];
 
 /// The choices of one run over ranges, a byte a clause.
-type Choices = [u8; CLAUSES];
+type Choices = [u8; MAX_CLAUSES];
 
 /// Sample i of an axis: the sum is a value, so what its parts lose beyond 32 bits is lost in the sum too.
 fn sample(first: i32, step: i32, i: u32) -> i32 {

@@ -1,25 +1,10 @@
-//! Damage to an accepted input.
+//! Damage to an accepted tape or grid.
 
-use crate::drawing::Drawing;
 use crate::random::Random;
+use slow::draw::Grid;
 
-/// Damages one thing or two: the tape, the grid or the length of a buffer.
-pub fn damage(r: &mut Random, drawing: &mut Drawing) {
-    for _ in 0..1 + r.below(2) {
-        match r.below(10) {
-            0..=4 => tape(r, &mut drawing.tape),
-            5..=7 => grid(r, drawing),
-            8 => drawing.work -= 1,
-            _ => {
-                let off = r.pick(&[-1, 1]);
-                let length = if r.one_in(2) { &mut drawing.flat } else { &mut drawing.solid };
-                *length = length.saturating_add_signed(off);
-            }
-        }
-    }
-}
-
-fn tape(r: &mut Random, tape: &mut Vec<u8>) {
+/// Damages a field of the tape, or its length.
+pub fn tape(r: &mut Random, tape: &mut Vec<u8>) {
     if tape.len() < 18 {
         return;
     }
@@ -53,8 +38,9 @@ fn tape(r: &mut Random, tape: &mut Vec<u8>) {
     }
 }
 
-fn grid(r: &mut Random, drawing: &mut Drawing) {
-    let (grid, axis) = (&mut drawing.grid, r.index(3));
+/// Damages a size, a step or an origin.
+pub fn grid(r: &mut Random, grid: &mut Grid) {
+    let axis = r.index(3);
     match r.below(3) {
         0 => grid.sizes[axis] = r.pick(&[0, 513, 65_536, 4_000_000_000]),
         1 => grid.steps[axis] = r.pick(&[0, -1, i32::MAX, i32::MIN]),

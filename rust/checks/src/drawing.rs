@@ -49,11 +49,22 @@ impl Drawing {
         Drawing::new(shapes::random(r, &grid).tape(), grid)
     }
 
-    /// An accepted input with one thing damaged.
+    /// An accepted input with one thing damaged or two: the tape, the grid or the length of a buffer.
     pub fn damaged(r: &mut Random) -> Self {
         let grid = grids::wild(r, 400);
         let mut drawing = Drawing::new(lists::random(r, &grid).tape(), grid);
-        damage::damage(r, &mut drawing);
+        for _ in 0..1 + r.below(2) {
+            match r.below(10) {
+                0..=4 => damage::tape(r, &mut drawing.tape),
+                5..=7 => damage::grid(r, &mut drawing.grid),
+                8 => drawing.work -= 1,
+                _ => {
+                    let off = r.pick(&[-1, 1]);
+                    let length = if r.one_in(2) { &mut drawing.flat } else { &mut drawing.solid };
+                    *length = length.saturating_add_signed(off);
+                }
+            }
+        }
         drawing
     }
 

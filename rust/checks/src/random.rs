@@ -54,7 +54,9 @@ impl Random {
     }
 }
 
-/// How many cases a test runs: LAYERS_CASES, or its own default.
+/// How many cases a test runs: LAYERS_CASES, or its own default. No cases would compare nothing and pass.
 pub fn cases(default: u64) -> u64 {
-    std::env::var("LAYERS_CASES").ok().and_then(|n| n.parse().ok()).unwrap_or(default)
+    let Some(asked) = std::env::var_os("LAYERS_CASES") else { return default };
+    let number = asked.to_str().and_then(|text| text.parse().ok()).filter(|&number| number > 0);
+    number.unwrap_or_else(|| panic!("LAYERS_CASES is {asked:?}: it must be a number of cases, 1 or more"))
 }

@@ -58,6 +58,15 @@ impl Opcode {
     pub const fn number(self) -> u8 {
         self as u8
     }
+
+    /// How many slots a clause with this opcode reads: none, the left one, or both.
+    pub const fn reads(self) -> usize {
+        match self {
+            Opcode::Constant | Opcode::X | Opcode::Y | Opcode::Z => 0,
+            Opcode::Copy | Opcode::Negate | Opcode::Absolute | Opcode::Square | Opcode::Root => 1,
+            Opcode::Add | Opcode::Subtract | Opcode::Multiply | Opcode::Minimum | Opcode::Maximum => 2,
+        }
+    }
 }
 
 /// One step of a tape: what it computes, the slot that it writes, the slots that it reads, and its constant.
@@ -205,6 +214,8 @@ mod tests {
             assert_eq!(clause.opcode, Opcode::ALL[number]);
             assert_eq!(clause.numbers(), numbers);
             assert_eq!(Clause::from_accepted(&numbers), clause);
+            // the table's clauses read slots other than 0
+            assert_eq!(clause.opcode.reads(), numbers[2..4].iter().filter(|&&slot| slot != 0).count());
         }
         assert_eq!(Opcode::ALL.len(), 14);
     }

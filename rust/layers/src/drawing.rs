@@ -35,7 +35,7 @@ pub struct Drawn<T> {
 /// let mut material = Vec::new();
 /// for layer in 0..8 {
 ///     let grid = Grid::flat(17, 17).origin(fixed(-8.0), fixed(-8.0), layer * ONE);
-///     let bitmap = Bitmap::draw_with(&cone, &grid, &mut work)?.picture;
+///     let bitmap = Bitmap::draw_with(&cone, grid, &mut work)?.picture;
 ///     material.push((0..17).filter(|&x| bitmap.pixel(x, 8)).count());
 /// }
 /// assert_eq!(material, [15, 13, 11, 9, 7, 5, 3, 1]);
@@ -71,7 +71,7 @@ impl fmt::Debug for Work {
 
 /// Width and height of the picture to make. A size above the limit is refused whatever the length of the picture, so no
 /// more memory is made than the largest picture has.
-pub fn sizes(grid: &Grid) -> (usize, usize) {
+pub fn sizes(grid: Grid) -> (usize, usize) {
     (grid.width.min(MAX_SIZE) as usize, grid.height.min(MAX_SIZE) as usize)
 }
 

@@ -12,9 +12,10 @@ use crate::{Drawn, Grid, Refusal, Tape, Work, netpbm};
 ///
 /// // z − 2 has material at the z indices 0 and 1
 /// let tape = Tape::from_clauses(2, &[Clause::z(0), Clause::constant(1, fixed(2.0)), Clause::subtract(0, 0, 1)])?;
-/// let drawn = Heightmap::draw(&tape, &Grid::solid(1, 1, 4))?;
+/// let drawn = Heightmap::draw(&tape, Grid::solid(1, 1, 4))?;
 /// assert_eq!(drawn.picture.height_at(0, 0), 2);
 /// assert_eq!(drawn.count, 18);
+/// assert_eq!(drawn.picture.into_vec(), [2]);
 /// # Ok::<(), layers::Refusal>(())
 /// ```
 #[derive(Clone, Debug, PartialEq, Eq, Hash)]
@@ -27,21 +28,21 @@ pub struct Heightmap {
 impl Heightmap {
     /// Draws by tiles: the same picture as [`draw_full`](Heightmap::draw_full), with less work. Refused are sizes and
     /// samples out of range, lines 10 and 11.
-    pub fn draw(tape: &Tape, grid: &Grid) -> Result<Drawn<Heightmap>, Refusal> {
+    pub fn draw(tape: &Tape, grid: Grid) -> Result<Drawn<Heightmap>, Refusal> {
         Heightmap::draw_with(tape, grid, &mut Work::new())
     }
 
     /// Draws by tiles, in memory that is there already.
-    pub fn draw_with(tape: &Tape, grid: &Grid, work: &mut Work) -> Result<Drawn<Heightmap>, Refusal> {
-        Heightmap::drawn(grid, |picture| raw::tile_solid(tape.as_bytes(), *grid, picture, work.lend()))
+    pub fn draw_with(tape: &Tape, grid: Grid, work: &mut Work) -> Result<Drawn<Heightmap>, Refusal> {
+        Heightmap::drawn(grid, |picture| raw::tile_solid(tape.as_bytes(), grid, picture, work.lend()))
     }
 
     /// Draws by running the whole tape at every sample.
-    pub fn draw_full(tape: &Tape, grid: &Grid) -> Result<Drawn<Heightmap>, Refusal> {
-        Heightmap::drawn(grid, |picture| raw::draw_solid(tape.as_bytes(), *grid, picture))
+    pub fn draw_full(tape: &Tape, grid: Grid) -> Result<Drawn<Heightmap>, Refusal> {
+        Heightmap::drawn(grid, |picture| raw::draw_solid(tape.as_bytes(), grid, picture))
     }
 
-    fn drawn(grid: &Grid, call: impl FnOnce(&mut [u16]) -> Answer) -> Result<Drawn<Heightmap>, Refusal> {
+    fn drawn(grid: Grid, call: impl FnOnce(&mut [u16]) -> Answer) -> Result<Drawn<Heightmap>, Refusal> {
         let (width, height) = sizes(grid);
         let (heights, count) = filled(width * height, call)?;
         Ok(Drawn { picture: Heightmap { width: grid.width, height: grid.height, heights }, count })
@@ -60,6 +61,16 @@ impl Heightmap {
     /// The rows, from y index 0 on: a height for each pixel.
     pub fn rows(&self) -> impl ExactSizeIterator<Item = &[u16]> {
         self.heights.chunks(self.width as usize)
+    }
+
+    /// All rows, one after the other.
+    pub fn as_slice(&self) -> &[u16] {
+        &self.heights
+    }
+
+    /// The rows' own memory, for another owner.
+    pub fn into_vec(self) -> Vec<u16> {
+        self.heights
     }
 
     /// The height of the part at the pixel.
@@ -92,12 +103,14 @@ mod tests {
 
     #[test]
     fn heights_are_in_row_order() {
-        let map = Heightmap::draw(&stairs(), &Grid::solid(4, 2, 3)).unwrap().picture;
+        let map = Heightmap::draw(&stairs(), Grid::solid(4, 2, 3)).unwrap().picture;
         assert_eq!((map.width(), map.height()), (4, 2));
         assert_eq!(map.rows().collect::<Vec<_>>(), [[1, 2, 3, 3]; 2]);
         assert_eq!([0, 1, 2, 3].map(|x| map.height_at(x, 1)), [1, 2, 3, 3]);
         let file = b"P5\n4 2\n65535\n\x00\x01\x00\x02\x00\x03\x00\x03\x00\x01\x00\x02\x00\x03\x00\x03";
         assert_eq!(map.to_netpbm(), file);
+        assert_eq!(map.as_slice(), [1, 2, 3, 3, 1, 2, 3, 3]);
+        assert_eq!(map.clone().into_vec(), map.as_slice());
     }
 
     #[test]
@@ -105,8 +118,8 @@ mod tests {
         let mut work = Work::new();
         for width in [10, 70, 100] {
             let grid = Grid::solid(width, 20, 90);
-            let full = Heightmap::draw_full(&stairs(), &grid).unwrap();
-            let tiles = Heightmap::draw_with(&stairs(), &grid, &mut work).unwrap();
+            let full = Heightmap::draw_full(&stairs(), grid).unwrap();
+            let tiles = Heightmap::draw_with(&stairs(), grid, &mut work).unwrap();
             assert_eq!(full.count, 5 * u64::from(width) * 20 * 90);
             assert_eq!(tiles.picture, full.picture);
             assert!(tiles.count < full.count);
@@ -115,18 +128,18 @@ mod tests {
 
     #[test]
     fn sizes_pass_up_to_the_limit() {
-        let map = Heightmap::draw(&stairs(), &Grid::solid(1, 1, 512).origin(i32::MAX, 0, 0).step(1, 1, 1)).unwrap();
+        let map = Heightmap::draw(&stairs(), Grid::solid(1, 1, 512).origin(i32::MAX, 0, 0).step(1, 1, 1)).unwrap();
         assert_eq!(map.picture.height_at(0, 0), 512);
         for (width, depth) in [(1, 0), (1, 513), (513, 1), (u32::MAX, 1), (1, u32::MAX)] {
             let grid = Grid::solid(width, width, depth);
-            assert_eq!(Heightmap::draw(&stairs(), &grid), Err(Refusal::SizeOutOfRange), "{width} deep {depth}");
-            assert_eq!(Heightmap::draw_full(&stairs(), &grid), Err(Refusal::SizeOutOfRange), "{width} deep {depth}");
+            assert_eq!(Heightmap::draw(&stairs(), grid), Err(Refusal::SizeOutOfRange), "{width} deep {depth}");
+            assert_eq!(Heightmap::draw_full(&stairs(), grid), Err(Refusal::SizeOutOfRange), "{width} deep {depth}");
         }
     }
 
     #[test]
     #[should_panic(expected = "pixel 0, 2 of a picture of 4 by 2")]
     fn no_pixel_outside() {
-        Heightmap::draw(&stairs(), &Grid::solid(4, 2, 3)).unwrap().picture.height_at(0, 2);
+        Heightmap::draw(&stairs(), Grid::solid(4, 2, 3)).unwrap().picture.height_at(0, 2);
     }
 }

@@ -10,7 +10,7 @@
 //! use layers::{fixed, Bitmap, Clause, Grid, Tape};
 //!
 //! let tape = Tape::from_clauses(2, &[Clause::x(0), Clause::constant(1, fixed(2.0)), Clause::subtract(0, 0, 1)])?;
-//! let drawn = Bitmap::draw(&tape, &Grid::flat(3, 2))?;
+//! let drawn = Bitmap::draw(&tape, Grid::flat(3, 2))?;
 //!
 //! assert_eq!(drawn.picture.to_netpbm(), [0x50, 0x34, 0x0A, 0x33, 0x20, 0x32, 0x0A, 0xC0, 0xC0]);
 //! assert_eq!(drawn.count, 24);

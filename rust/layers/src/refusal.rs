@@ -5,195 +5,127 @@ use crate::{MAX_CLAUSES, MAX_SIZE, MAX_SLOTS, Opcode};
 use std::error::Error;
 use std::fmt;
 
-/// A line of the core's table of refusals, in the table's order: the first has number 1. Clauses are counted from 0.
-///
-/// A [`Tape`](crate::Tape) meets lines 1 to 9, a drawing of it 10 and 11. Lines 12 to 14 are about lent memory, so only
-/// the calls of [`raw`](crate::raw) meet them, and 15 and 16 are about the input of the program `drawlayer`.
-///
-/// ```
-/// use layers::{Refusal, Tape};
-///
-/// let refusal = Tape::from_list(1, &[1, 0, 0, 0, 0, 12, 0, 0, 1, 0]).unwrap_err();
-/// assert_eq!(refusal, Refusal::SlotOutOfRange { clause: 1 });
-/// assert_eq!((refusal.number(), refusal.place()), (6, Some(1)));
-/// assert!(refusal.to_string().starts_with("clause 1 (counted from 0) uses a slot that the tape does not have"));
-/// ```
-#[derive(Clone, Copy, Debug, PartialEq, Eq, Hash)]
-#[non_exhaustive]
-pub enum Refusal {
-    /// 1: the tape is shorter than its head.
-    ShortTape,
-    /// 2: the head's mark, edition or spare bytes are wrong.
-    WrongHead,
-    /// 3: the slot count or the clause count is out of range.
-    CountOutOfRange,
-    /// 4: the tape's length does not fit its clause count, or a list is not five numbers to a clause.
-    WrongLength,
-    /// 5: a clause's mark is wrong, or its opcode is none.
-    UnknownClause {
-        /// The clause at fault.
-        clause: u32,
-    },
-    /// 6: a slot field in use is below 0, or not below the slot count.
-    SlotOutOfRange {
-        /// The clause at fault.
-        clause: u32,
-    },
-    /// 7: a field that the opcode does not use is not 0.
-    UnusedFieldSet {
-        /// The clause at fault.
-        clause: u32,
-    },
-    /// 8: the constant is −2,147,483,648.
-    ConstantOutOfRange {
-        /// The clause at fault.
-        clause: u32,
-    },
-    /// 9: a slot is read that no earlier clause wrote.
-    UnwrittenSlot {
-        /// The clause at fault.
-        clause: u32,
-    },
-    /// 10: a size is out of range.
-    SizeOutOfRange,
-    /// 11: a step is below 1, or a sample is no value.
-    SampleOutOfRange,
-    /// 12: the picture buffer has not the exact length.
-    PictureLength,
-    /// 13: the work buffer is too short.
-    WorkLength,
-    /// 14: the output of packing, unpacking or file making has not the exact length.
-    OutputLength,
-    /// 15: the program's input does not begin with a grid record.
-    NoGridRecord,
-    /// 16: a solid of the program is too wide or too high.
-    SolidTooLarge,
+/// Makes [`Refusal`] and all that is known of each line from one row a line: the number, the name (with `{ clause }`
+/// where the place counts), what the README's table says, and the message, before which `clause N` is put where there
+/// is one.
+macro_rules! refusals {
+    (
+        $(#[$about:meta])*
+        $($number:literal $name:ident $({ $clause:ident })?, $line:literal, $message:literal;)*
+    ) => {
+        $(#[$about])*
+        #[derive(Clone, Copy, Debug, PartialEq, Eq, Hash)]
+        #[non_exhaustive]
+        pub enum Refusal {
+            $(
+                #[doc = concat!(stringify!($number), ": ", $line, ".")]
+                $name $({
+                    /// The clause at fault.
+                    $clause: u32,
+                })?,
+            )*
+        }
+
+        impl Refusal {
+            /// The refusal of a number of the table and the place that came with it, which counts for 5 to 9 only.
+            ///
+            /// `None` for 0, which is no refusal, and for a number that the table does not have.
+            pub const fn from_number(number: u8, place: u32) -> Option<Refusal> {
+                match number {
+                    $($number => Some(Refusal::$name $({ $clause: place })?),)*
+                    _ => None,
+                }
+            }
+
+            /// The number of the line in the table.
+            pub const fn number(self) -> u8 {
+                match self {
+                    $(Refusal::$name { .. } => $number,)*
+                }
+            }
+
+            /// The clause at fault, counted from 0, for the lines 5 to 9.
+            pub const fn place(self) -> Option<u32> {
+                match self {
+                    $($(Refusal::$name { $clause } => Some($clause),)?)*
+                    _ => None,
+                }
+            }
+        }
+
+        /// What is wrong and how it would be right.
+        impl fmt::Display for Refusal {
+            fn fmt(&self, f: &mut fmt::Formatter) -> fmt::Result {
+                if let Some(clause) = self.place() {
+                    write!(f, "clause {clause} (counted from 0) ")?;
+                }
+                match self {
+                    $(Refusal::$name { .. } => write!(f, $message),)*
+                }
+            }
+        }
+
+        /// The table, as the README has it.
+        #[cfg(test)]
+        const LINES: &[(u8, &str)] = &[$(($number, $line)),*];
+    };
 }
 
-impl Refusal {
-    /// The refusal of a number of the table and the place that came with it, which counts for 5 to 9 only.
+const LAST_OPCODE: usize = Opcode::ALL.len() - 1;
+const LEAST: i32 = -i32::MAX;
+const GREATEST: i32 = i32::MAX;
+
+refusals! {
+    /// A line of the core's table of refusals, in the table's order: the first has number 1. Clauses are counted
+    /// from 0.
     ///
-    /// `None` for 0, which is no refusal, and for a number that the table does not have.
-    pub const fn from_number(number: u8, place: u32) -> Option<Refusal> {
-        let clause = place;
-        Some(match number {
-            1 => Refusal::ShortTape,
-            2 => Refusal::WrongHead,
-            3 => Refusal::CountOutOfRange,
-            4 => Refusal::WrongLength,
-            5 => Refusal::UnknownClause { clause },
-            6 => Refusal::SlotOutOfRange { clause },
-            7 => Refusal::UnusedFieldSet { clause },
-            8 => Refusal::ConstantOutOfRange { clause },
-            9 => Refusal::UnwrittenSlot { clause },
-            10 => Refusal::SizeOutOfRange,
-            11 => Refusal::SampleOutOfRange,
-            12 => Refusal::PictureLength,
-            13 => Refusal::WorkLength,
-            14 => Refusal::OutputLength,
-            15 => Refusal::NoGridRecord,
-            16 => Refusal::SolidTooLarge,
-            _ => return None,
-        })
-    }
+    /// A [`Tape`](crate::Tape) meets lines 1 to 9, a drawing of it 10 and 11. Lines 12 to 14 are about lent memory, so
+    /// only the calls of [`raw`](crate::raw) meet them, and 15 and 16 are about the input of the program `drawlayer`.
+    ///
+    /// ```
+    /// use layers::{Refusal, Tape};
+    ///
+    /// let refusal = Tape::from_list(1, &[1, 0, 0, 0, 0, 12, 0, 0, 1, 0]).unwrap_err();
+    /// assert_eq!(refusal, Refusal::SlotOutOfRange { clause: 1 });
+    /// assert_eq!((refusal.number(), refusal.place()), (6, Some(1)));
+    /// assert!(refusal.to_string().starts_with("clause 1 (counted from 0) uses a slot that the tape does not have"));
+    /// ```
 
-    /// The number of the line in the table.
-    pub const fn number(self) -> u8 {
-        match self {
-            Refusal::ShortTape => 1,
-            Refusal::WrongHead => 2,
-            Refusal::CountOutOfRange => 3,
-            Refusal::WrongLength => 4,
-            Refusal::UnknownClause { .. } => 5,
-            Refusal::SlotOutOfRange { .. } => 6,
-            Refusal::UnusedFieldSet { .. } => 7,
-            Refusal::ConstantOutOfRange { .. } => 8,
-            Refusal::UnwrittenSlot { .. } => 9,
-            Refusal::SizeOutOfRange => 10,
-            Refusal::SampleOutOfRange => 11,
-            Refusal::PictureLength => 12,
-            Refusal::WorkLength => 13,
-            Refusal::OutputLength => 14,
-            Refusal::NoGridRecord => 15,
-            Refusal::SolidTooLarge => 16,
-        }
-    }
-
-    /// The clause at fault, counted from 0, for the lines 5 to 9.
-    pub const fn place(self) -> Option<u32> {
-        match self {
-            Refusal::UnknownClause { clause }
-            | Refusal::SlotOutOfRange { clause }
-            | Refusal::UnusedFieldSet { clause }
-            | Refusal::ConstantOutOfRange { clause }
-            | Refusal::UnwrittenSlot { clause } => Some(clause),
-            _ => None,
-        }
-    }
-}
-
-/// What is wrong and how it would be right.
-impl fmt::Display for Refusal {
-    fn fmt(&self, f: &mut fmt::Formatter) -> fmt::Result {
-        if let Some(clause) = self.place() {
-            write!(f, "clause {clause} (counted from 0) ")?;
-        }
-        let (least, most) = (-i32::MAX, i32::MAX);
-        match self {
-            Refusal::ShortTape => write!(f, "the tape is shorter than its head of 8 bytes: is the file cut off?"),
-            Refusal::WrongHead => write!(
-                f,
-                "this is no tape of edition 1: it must begin with the bytes 54 50 01, and bytes 6 and 7 must be 00"
-            ),
-            Refusal::CountOutOfRange => write!(
-                f,
-                "a tape has 1 to {MAX_SLOTS} slots and 1 to {MAX_CLAUSES} clauses: use slots again, or split the part"
-            ),
-            Refusal::WrongLength => write!(
-                f,
-                "the length does not fit: a tape has 8 bytes and 10 for each clause that its head counts, \
-                 a list five numbers for each clause"
-            ),
-            Refusal::UnknownClause { .. } => {
-                let last = Opcode::ALL.len() - 1;
-                write!(f, "is not one: on a tape it begins with the bytes 43 4C, and its opcode is 0 to {last}")
-            }
-            Refusal::SlotOutOfRange { .. } => {
-                write!(f, "uses a slot that the tape does not have: slots go from 0 to one below the slot count")
-            }
-            Refusal::UnusedFieldSet { .. } => write!(f, "sets a field that its opcode does not use: it must be 0"),
-            Refusal::ConstantOutOfRange { .. } => write!(f, "has the constant {}: the least is {least}", i32::MIN),
-            Refusal::UnwrittenSlot { .. } => write!(f, "reads a slot that no earlier clause wrote: write it first"),
-            Refusal::SizeOutOfRange => write!(
-                f,
-                "width, height and, for a heightmap, depth must be 1 to {MAX_SIZE}: draw a larger grid in pieces"
-            ),
-            Refusal::SampleOutOfRange => write!(
-                f,
-                "steps must be 1 or more, and the first and last sample of each axis {least} to {most}: \
-                 move the grid, or take smaller steps"
-            ),
-            Refusal::PictureLength => write!(
-                f,
-                "the picture buffer has the wrong length: a bitmap has width / 8 bytes, rounded up, for each row, \
-                 a heightmap one height for each pixel"
-            ),
-            Refusal::WorkLength => write!(f, "the work buffer is too short: it needs {WORK} bytes"),
-            Refusal::OutputLength => write!(
-                f,
-                "the output buffer has the wrong length: it must be that of the tape, list or file to be written"
-            ),
-            Refusal::NoGridRecord => write!(
-                f,
-                "the input must begin with a grid record of 32 bytes, the first two of them 47 52, before the tape"
-            ),
-            Refusal::SolidTooLarge => write!(
-                f,
-                "the program draws solids up to 128 wide and 128 high: draw a smaller grid, or set depth to 0 \
-                 for a bitmap"
-            ),
-        }
-    }
+    1 ShortTape, "tape below 8 bytes",
+        "the tape is shorter than its head of 8 bytes: is the file cut off?";
+    2 WrongHead, "head mark, edition or spare bytes wrong",
+        "this is no tape of edition 1: it must begin with the bytes 54 50 01, and bytes 6 and 7 must be 00";
+    3 CountOutOfRange, "slot or clause count out of range",
+        "a tape has 1 to {MAX_SLOTS} slots and 1 to {MAX_CLAUSES} clauses: use slots again, or split the part";
+    4 WrongLength, "tape length not 8 + 10·clauses; list length not a multiple of 5",
+        "the length does not fit: a tape has 8 bytes and 10 for each clause that its head counts, \
+         a list five numbers for each clause";
+    5 UnknownClause { clause }, "clause mark wrong, or opcode not 0 to 13",
+        "is not one: on a tape it begins with the bytes 43 4C, and its opcode is 0 to {LAST_OPCODE}";
+    6 SlotOutOfRange { clause }, "a used slot field below 0, or not below the slot count",
+        "uses a slot that the tape does not have: slots go from 0 to one below the slot count";
+    7 UnusedFieldSet { clause }, "an unused field not 0",
+        "sets a field that its opcode does not use: it must be 0";
+    8 ConstantOutOfRange { clause }, "a used constant of −2,147,483,648",
+        "has the constant -2147483648: the least is {LEAST}";
+    9 UnwrittenSlot { clause }, "a slot read that no earlier clause wrote",
+        "reads a slot that no earlier clause wrote: write it first";
+    10 SizeOutOfRange, "a size not 1 to 512",
+        "width, height and, for a heightmap, depth must be 1 to {MAX_SIZE}: draw a larger grid in pieces";
+    11 SampleOutOfRange, "a step below 1, or an origin, z or last sample outside −2,147,483,647 to 2,147,483,647",
+        "steps must be 1 or more, and the first and last sample of each axis {LEAST} to {GREATEST}: \
+         move the grid, or take smaller steps";
+    12 PictureLength, "picture buffer not of the exact length",
+        "the picture buffer has the wrong length: a bitmap has width / 8 bytes, rounded up, for each row, \
+         a heightmap one height for each pixel";
+    13 WorkLength, "work buffer below 32,768 bytes",
+        "the work buffer is too short: it needs {WORK} bytes";
+    14 OutputLength, "packing, unpacking or file: output not of the exact length",
+        "the output buffer has the wrong length: it must be that of the tape, list or file to be written";
+    15 NoGridRecord, "program: input below 32 bytes or grid mark wrong",
+        "the input must begin with a grid record of 32 bytes, the first two of them 47 52, before the tape";
+    16 SolidTooLarge, "program: depth above 0 and width or height above 128",
+        "the program draws solids up to 128 wide and 128 high: draw a smaller grid, or set depth to 0 for a bitmap";
 }
 
 impl Error for Refusal {}
@@ -220,43 +152,44 @@ mod tests {
     use crate::{Grid, raw};
     use std::collections::HashSet;
 
-    const TABLE: [Refusal; 16] = [
-        Refusal::ShortTape,
-        Refusal::WrongHead,
-        Refusal::CountOutOfRange,
-        Refusal::WrongLength,
-        Refusal::UnknownClause { clause: 731 },
-        Refusal::SlotOutOfRange { clause: 731 },
-        Refusal::UnusedFieldSet { clause: 731 },
-        Refusal::ConstantOutOfRange { clause: 731 },
-        Refusal::UnwrittenSlot { clause: 731 },
-        Refusal::SizeOutOfRange,
-        Refusal::SampleOutOfRange,
-        Refusal::PictureLength,
-        Refusal::WorkLength,
-        Refusal::OutputLength,
-        Refusal::NoGridRecord,
-        Refusal::SolidTooLarge,
-    ];
-
-    #[test]
-    fn numbers_are_in_table_order() {
-        for (number, refusal) in (1..).zip(TABLE) {
-            assert_eq!(refusal.number(), number);
-            assert_eq!(Refusal::from_number(number, 731), Some(refusal));
-        }
+    /// Every refusal, in table order.
+    fn all() -> impl Iterator<Item = Refusal> {
+        (1..).map_while(|number| Refusal::from_number(number, 731))
     }
 
     #[test]
-    fn other_numbers_are_no_refusals() {
-        for number in (0..=u8::MAX).filter(|n| !(1..=16).contains(n)) {
-            assert_eq!(Refusal::from_number(number, 0), None, "{number}");
+    fn numbers_are_in_table_order() {
+        assert_eq!(all().count(), LINES.len());
+        for (number, (refusal, line)) in (1..).zip(all().zip(LINES)) {
+            assert_eq!((refusal.number(), line.0), (number, number));
         }
+        let others = (0..=u8::MAX).filter(|&number| number == 0 || usize::from(number) > LINES.len());
+        assert!(others.map(|number| Refusal::from_number(number, 0)).all(|none| none.is_none()));
+    }
+
+    #[test]
+    fn the_readme_has_the_table() {
+        let readme = include_str!("../../../README.md");
+        let table = readme.split("\n## Refusals\n").nth(1).expect("a section").split("\n## ").next();
+        let rows: Vec<&str> = table.into_iter().flat_map(str::lines).filter(|line| line.starts_with("| ")).collect();
+        let expected = LINES.iter().map(|(number, line)| format!("| {number} | {line} |"));
+        assert_eq!(rows, [String::from("| number | if |")].into_iter().chain(expected).collect::<Vec<_>>());
+    }
+
+    /// The header has the lines that its calls meet, which are all but the program's, in the letters of C.
+    #[test]
+    fn the_header_has_the_table_of_the_calls() {
+        let header = include_str!("../../../include/layers.h");
+        let lines = header.lines().filter_map(|line| line.strip_prefix(" *   "));
+        let in_c = |line: &str| line.replace('−', "-").replace('·', "*");
+        let calls = LINES.iter().filter(|(_, line)| !line.starts_with("program: "));
+        let expected = calls.map(|(number, line)| format!("{number:>2} {}", in_c(line)));
+        assert_eq!(lines.collect::<Vec<_>>(), expected.collect::<Vec<_>>());
     }
 
     #[test]
     fn clauses_at_fault_are_told_for_5_to_9_only() {
-        for refusal in TABLE {
+        for refusal in all() {
             let told = (5..=9).contains(&refusal.number());
             assert_eq!(refusal.place(), told.then_some(731));
             assert_eq!(refusal.to_string().contains("731"), told, "{refusal}");
@@ -265,8 +198,8 @@ mod tests {
 
     #[test]
     fn messages_are_distinct_sentences() {
-        let messages: HashSet<String> = TABLE.iter().map(|r| r.to_string()).collect();
-        assert_eq!(messages.len(), TABLE.len());
+        let messages: HashSet<String> = all().map(|r| r.to_string()).collect();
+        assert_eq!(messages.len(), LINES.len());
         for message in messages {
             assert!(message.len() > 30 && !message.contains("  ") && !message.contains('\n'), "{message}");
         }
@@ -288,8 +221,8 @@ mod tests {
     }
 
     #[test]
-    #[should_panic(expected = "the core returned 17")]
+    #[should_panic(expected = "the core returned 255")]
     fn an_unknown_number_is_no_result() {
-        let _ = Answer { number: 17, place: 0, count: 0 }.into_result();
+        let _ = Answer { number: 255, place: 0, count: 0 }.into_result();
     }
 }

@@ -86,6 +86,21 @@ impl Tape {
     }
 }
 
+impl TryFrom<&[u8]> for Tape {
+    type Error = Refusal;
+
+    /// [`Tape::from_bytes`].
+    fn try_from(bytes: &[u8]) -> Result<Tape, Refusal> {
+        Tape::from_bytes(bytes)
+    }
+}
+
+impl AsRef<[u8]> for Tape {
+    fn as_ref(&self) -> &[u8] {
+        self.as_bytes()
+    }
+}
+
 /// The list of a tape. The output has the length that the head asks for, so line 14 never holds, and lines 1 to 9 alone
 /// turn bytes down.
 fn unpacked(bytes: &[u8]) -> Result<Vec<i32>, Refusal> {
@@ -115,6 +130,9 @@ mod tests {
         let clauses = [Clause::x(0), Clause::constant(1, 131_072), Clause::subtract(0, 0, 1)];
         let tape = Tape::from_bytes(FIGURE).unwrap();
         assert_eq!(tape.as_bytes(), FIGURE);
+        assert_eq!(tape.as_ref(), FIGURE);
+        assert_eq!(Tape::try_from(&FIGURE[..]).unwrap(), tape);
+        assert_eq!(Tape::try_from(&FIGURE[1..]), Err(Refusal::WrongHead));
         assert_eq!(tape.slots(), 2);
         assert_eq!(tape.to_list(), list);
         assert_eq!(tape.clauses(), clauses);

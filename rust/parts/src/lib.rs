@@ -6,15 +6,15 @@ pub mod picture;
 pub mod shape;
 pub mod slots;
 
-use formula::{Formula, fixed};
-use layers::Grid;
+use formula::{Formula, nearest};
+use layers::{Grid, MAX_SLOTS, Tape};
 use shape::Shape;
-use slots::{List, SLOT_LIMIT, TooBig, compile};
+use slots::{TooBig, compile};
 
 /// A part to draw: its tape, and the grids that show it.
 pub struct Part {
     pub name: &'static str,
-    pub tape: Vec<u8>,
+    pub tape: Tape,
     /// 512 by 512, at a z that shows the inside.
     pub flat: Grid,
     /// 128 by 128 by 128, of the whole part.
@@ -32,13 +32,13 @@ pub struct Design {
 
 impl Design {
     pub fn part(&self) -> Part {
-        let list = self.compiled(SLOT_LIMIT).unwrap_or_else(|e| panic!("{}: {e:?}", self.name));
-        let flat = Grid { depth: 0, zfirst: fixed(self.z), zstep: 0, ..self.grid(512) };
-        Part { name: self.name, tape: list.pack(), flat, solid: self.grid(128) }
+        let tape = self.compiled(MAX_SLOTS).unwrap_or_else(|e| panic!("{}: {e:?}", self.name));
+        let flat = Grid { depth: 0, zfirst: nearest(self.z), zstep: 0, ..self.grid(512) };
+        Part { name: self.name, tape, flat, solid: self.grid(128) }
     }
 
-    /// The part's list within a number of slots.
-    pub fn compiled(&self, slots: usize) -> Result<List, TooBig> {
+    /// The part's tape within a number of slots.
+    pub fn compiled(&self, slots: u8) -> Result<Tape, TooBig> {
         let mut formula = Formula::default();
         let result = self.shape.formula(&mut formula);
         compile(&formula, result, slots)
@@ -46,8 +46,8 @@ impl Design {
 
     /// The box, cut into n samples along each axis.
     fn grid(&self, n: u32) -> Grid {
-        let low = self.low.map(fixed);
-        let sizes = [0, 1, 2].map(|axis| fixed(self.high[axis] - self.low[axis]));
+        let low = self.low.map(nearest);
+        let sizes = [0, 1, 2].map(|axis| nearest(self.high[axis] - self.low[axis]));
         cut(low, sizes, n)
     }
 }
@@ -69,12 +69,8 @@ fn cut(low: [i32; 3], sizes: [i32; 3], n: u32) -> Grid {
 }
 
 impl Part {
-    pub fn slots(&self) -> usize {
-        self.tape[3] as usize
-    }
-
     pub fn clauses(&self) -> usize {
-        (self.tape.len() - 8) / 10
+        self.tape.clauses().len()
     }
 
     /// The program's inputs that draw this part, with their file names.
@@ -93,7 +89,7 @@ impl Part {
 }
 
 /// A program's input: the grid record, then the tape.
-fn input(grid: Grid, tape: &[u8]) -> Vec<u8> {
+fn input(grid: Grid, tape: &Tape) -> Vec<u8> {
     let mut bytes = vec![0x47, 0x52];
     for size in [grid.width, grid.height, grid.depth] {
         bytes.extend((size as u16).to_le_bytes());
@@ -101,7 +97,7 @@ fn input(grid: Grid, tape: &[u8]) -> Vec<u8> {
     for number in [grid.xfirst, grid.yfirst, grid.zfirst, grid.xstep, grid.ystep, grid.zstep] {
         bytes.extend(number.to_le_bytes());
     }
-    bytes.extend(tape);
+    bytes.extend(tape.as_bytes());
     bytes
 }
 

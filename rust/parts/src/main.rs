@@ -23,10 +23,10 @@ fn main() -> std::io::Result<()> {
 /// The part's size, and what tiles save.
 fn report(part: &Part) {
     let clauses = part.clauses() as u64;
-    let (_, flat) = picture::flat(part, part.flat);
-    let (_, solid) = picture::solid(part, part.solid);
+    let flat = picture::flat(part).count;
+    let solid = picture::solid(part, part.solid).count;
     let (full_flat, full_solid) = (clauses * 512 * 512, clauses * 128 * 128 * 128);
-    println!("{}: {clauses} clauses, {} slots", part.name, part.slots());
+    println!("{}: {clauses} clauses, {} slots", part.name, part.tape.slots());
     println!("  flat {flat} of {full_flat}, 1/{:.1}", full_flat as f64 / flat as f64);
     println!("  solid {solid} of {full_solid}, 1/{:.1}", full_solid as f64 / solid as f64);
 }

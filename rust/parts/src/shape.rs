@@ -3,7 +3,8 @@
 //! Lengths are millimetres. Squares are clamped at 32,768, so a part should stay within about 100 of the origin. Every
 //! formula is a distance, or near one: such a formula has tight bounds over a region, on which tiles depend.
 
-use crate::formula::{Formula, Id, Op, fixed};
+use crate::formula::{Formula, Id, nearest};
+use layers::Opcode;
 use std::rc::Rc;
 
 /// A direction, of length 1.
@@ -157,7 +158,7 @@ impl Shape {
             }
             Kind::Shell(shape, limit) => {
                 let value = shape.build(f, Wanted { outside: false, turned: false, grown: 0.0, ..w });
-                let distance = f.unary(Op::Absolute, value);
+                let distance = f.unary(Opcode::Absolute, value);
                 surface(f, distance, *limit, w)
             }
             Kind::Outside(shape) => shape.build(f, Wanted { outside: !w.outside, ..w }),
@@ -176,7 +177,7 @@ impl Shape {
             return rounded_formula(f, &terms, w);
         }
         let values: Vec<Id> = terms.iter().map(|(shape, w)| shape.build(f, *w)).collect();
-        let op = if meet { Op::Maximum } else { Op::Minimum };
+        let op = if meet { Opcode::Maximum } else { Opcode::Minimum };
         values.into_iter().reduce(|all, one| f.binary(op, all, one)).expect("a union of nothing")
     }
 
@@ -200,36 +201,36 @@ fn moved(w: Wanted, by: [f64; 3]) -> Wanted {
 fn distance(f: &mut Formula, directions: &[Direction], w: Wanted) -> Id {
     let places: Vec<Id> = directions.iter().map(|&d| place_from(f, d, w.at)).collect();
     if let [place] = places[..] {
-        return f.unary(Op::Absolute, place);
+        return f.unary(Opcode::Absolute, place);
     }
     root_of_squares(f, places)
 }
 
 fn root_of_squares(f: &mut Formula, places: Vec<Id>) -> Id {
-    let squares: Vec<Id> = places.into_iter().map(|place| f.unary(Op::Square, place)).collect();
-    let sum = squares.into_iter().reduce(|all, one| f.binary(Op::Add, all, one)).expect("no direction");
-    f.unary(Op::Root, sum)
+    let squares: Vec<Id> = places.into_iter().map(|place| f.unary(Opcode::Square, place)).collect();
+    let sum = squares.into_iter().reduce(|all, one| f.binary(Opcode::Add, all, one)).expect("no direction");
+    f.unary(Opcode::Root, sum)
 }
 
 /// The place along a direction or its opposite, whichever is upward, from a given point.
 fn place_from(f: &mut Formula, d: Direction, at: [f64; 3]) -> Id {
     let d = upward(d);
     let place = place(f, d);
-    f.less(place, fixed(dot(d, at)))
+    f.less(place, nearest(dot(d, at)))
 }
 
 /// Of a direction and its opposite the one whose first part other than 0 is above 0, so that the two share a formula.
 fn upward(d: Direction) -> Direction {
-    let first = d.into_iter().find(|&c| fixed(c) != 0).expect("no direction");
+    let first = d.into_iter().find(|&c| nearest(c) != 0).expect("no direction");
     d.map(|c| if first < 0.0 { -c } else { c })
 }
 
 /// The place along an upward direction: the sum of its parts times the axes.
 fn place(f: &mut Formula, d: Direction) -> Id {
     let mut sum = None;
-    for axis in (0..3).filter(|&axis| fixed(d[axis]) != 0) {
+    for axis in (0..3).filter(|&axis| nearest(d[axis]) != 0) {
         let part = scaled_axis(f, axis, d[axis].abs());
-        let op = if d[axis] > 0.0 { Op::Add } else { Op::Subtract };
+        let op = if d[axis] > 0.0 { Opcode::Add } else { Opcode::Subtract };
         sum = Some(sum.map_or(part, |sum| f.binary(op, sum, part)));
     }
     sum.expect("no direction")
@@ -237,17 +238,17 @@ fn place(f: &mut Formula, d: Direction) -> Id {
 
 fn scaled_axis(f: &mut Formula, axis: usize, factor: f64) -> Id {
     let place = f.axis(axis);
-    if fixed(factor) == fixed(1.0) {
+    if nearest(factor) == nearest(1.0) {
         return place;
     }
-    let factor = f.constant(fixed(factor));
-    f.binary(Op::Multiply, place, factor)
+    let factor = f.constant(nearest(factor));
+    f.binary(Opcode::Multiply, place, factor)
 }
 
 /// The value of the material whose distance is below a limit. For the outside the difference is turned round, which
 /// takes no further clause.
 fn surface(f: &mut Formula, distance: Id, limit: f64, w: Wanted) -> Id {
-    if w.outside { f.from(fixed(limit - w.grown), distance) } else { f.less(distance, fixed(limit + w.grown)) }
+    if w.outside { f.from(nearest(limit - w.grown), distance) } else { f.less(distance, nearest(limit + w.grown)) }
 }
 
 /// A half-space. One that faces downward is the outside of one that faces upward.
@@ -269,7 +270,7 @@ fn rounded_formula(f: &mut Formula, terms: &[(Shape, Wanted)], w: Wanted) -> Id 
         .map(|(shape, term)| {
             let outside = term.outside != w.turned;
             let value = shape.build(f, Wanted { outside, turned: false, grown: -w.edge, ..*term });
-            f.binary(Op::Maximum, value, zero)
+            f.binary(Opcode::Maximum, value, zero)
         })
         .collect();
     let distance = root_of_squares(f, beyond);

@@ -6,10 +6,8 @@
 //! below the limit nothing, so fewest clauses come first, then fewest slots.
 
 use crate::formula::{Formula, Id, Node};
+use layers::{Clause, MAX_CLAUSES, MAX_SLOTS, Tape};
 use std::collections::VecDeque;
-
-pub const SLOT_LIMIT: usize = 64;
-pub const CLAUSE_LIMIT: usize = 1024;
 
 /// Why a formula has no tape.
 #[derive(Clone, Copy, Debug, PartialEq, Eq)]
@@ -18,36 +16,17 @@ pub enum TooBig {
     Clauses(usize),
 }
 
-/// A tape in list form: five numbers to a clause.
-#[derive(Clone, Debug, PartialEq, Eq)]
-pub struct List {
-    pub slots: usize,
-    pub numbers: Vec<i32>,
-}
-
-impl List {
-    pub fn clauses(&self) -> usize {
-        self.numbers.len() / 5
-    }
-
-    /// The bytes, as the core's packer writes them.
-    pub fn pack(&self) -> Vec<u8> {
-        let mut bytes = vec![0; 8 + 10 * self.clauses()];
-        let answer = layers::raw::pack_tape(self.slots as u32, &self.numbers, &mut bytes);
-        assert_eq!(answer.number, 0, "refused at clause {}", answer.place);
-        bytes
-    }
-}
-
-/// The list of a node's formula within a number of slots, with the fewest clauses and among these the fewest slots.
-pub fn compile(formula: &Formula, result: Id, slots: usize) -> Result<List, TooBig> {
+/// The tape of a node's formula within a number of slots, with the fewest clauses and among these the fewest slots.
+pub fn compile(formula: &Formula, result: Id, slots: u8) -> Result<Tape, TooBig> {
     let order = order(formula, result);
-    let best = allocate(formula, &order, slots.min(SLOT_LIMIT)).ok_or(TooBig::Slots)?;
-    if best.clauses() > CLAUSE_LIMIT {
-        return Err(TooBig::Clauses(best.clauses()));
+    let roomy = allocate(formula, &order, slots.min(MAX_SLOTS)).ok_or(TooBig::Slots)?;
+    let count = roomy.clauses.len();
+    if count > MAX_CLAUSES {
+        return Err(TooBig::Clauses(count));
     }
-    let mut fewer = (1..best.slots).filter_map(|slots| allocate(formula, &order, slots));
-    Ok(fewer.find(|list| list.clauses() == best.clauses()).unwrap_or(best))
+    let mut fewer = (1..roomy.slots).filter_map(|slots| allocate(formula, &order, slots));
+    let List { slots, clauses } = fewer.find(|list| list.clauses.len() == count).unwrap_or(roomy);
+    Ok(Tape::from_clauses(slots, &clauses).expect("clauses within the limits, each after those whose slots it reads"))
 }
 
 /// The nodes to compute, each after what it reads. Constants and axes are left out, but for the result.
@@ -93,16 +72,22 @@ fn needs(formula: &Formula) -> Vec<usize> {
 }
 
 fn is_leaf(node: Node) -> bool {
-    node.op.arity() == 0
+    node.op.reads() == 0
 }
 
-/// The list in this order within a number of slots, or none if they don't do.
-fn allocate(formula: &Formula, order: &[Id], slots: usize) -> Option<List> {
+/// Clauses, and how many slots they use.
+struct List {
+    slots: u8,
+    clauses: Vec<Clause>,
+}
+
+/// The clauses in this order within a number of slots, or none if they don't do.
+fn allocate(formula: &Formula, order: &[Id], slots: u8) -> Option<List> {
     let mut desk = Desk::new(formula, order, slots);
     for &id in order {
         desk.compute(id)?;
     }
-    Some(List { slots: desk.used, numbers: desk.numbers })
+    Some(desk.list)
 }
 
 /// What each slot holds while clauses are written.
@@ -112,20 +97,19 @@ struct Desk<'a> {
     slot_of: Vec<Option<usize>>,
     /// For each node, the places in the order of the clauses yet to come that read it.
     readers: Vec<VecDeque<usize>>,
-    used: usize,
-    numbers: Vec<i32>,
+    list: List,
 }
 
 impl<'a> Desk<'a> {
-    fn new(formula: &'a Formula, order: &[Id], slots: usize) -> Self {
+    fn new(formula: &'a Formula, order: &[Id], slots: u8) -> Self {
         let mut readers = vec![VecDeque::new(); formula.count()];
         for (place, &id) in order.iter().enumerate() {
             for read in formula.node(id).reads() {
                 readers[read].push_back(place);
             }
         }
-        let (holds, slot_of) = (vec![None; slots], vec![None; formula.count()]);
-        Desk { formula, holds, slot_of, readers, used: 0, numbers: Vec::new() }
+        let (holds, slot_of) = (vec![None; slots.into()], vec![None; formula.count()]);
+        Desk { formula, holds, slot_of, readers, list: List { slots: 0, clauses: Vec::new() } }
     }
 
     /// Writes the clause of a node, after loads of what it reads.
@@ -174,10 +158,11 @@ impl<'a> Desk<'a> {
 
     fn write(&mut self, id: Id, slot: usize, operands: &[usize]) {
         let Node { op, constant, .. } = self.formula.node(id);
-        let operand = |i: usize| operands.get(i).copied().unwrap_or(0) as i32;
-        self.numbers.extend([op as i32, slot as i32, operand(0), operand(1), constant]);
+        let operand = |i: usize| operands.get(i).map_or(0, |&slot| slot as u8);
+        let clause = Clause { opcode: op, out: slot as u8, left: operand(0), right: operand(1), constant };
+        self.list.clauses.push(clause);
+        self.list.slots = self.list.slots.max(clause.out + 1);
         self.holds[slot] = Some(id);
         self.slot_of[id] = Some(slot);
-        self.used = self.used.max(slot + 1);
     }
 }

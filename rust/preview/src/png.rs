@@ -60,10 +60,11 @@ impl Bits {
     /// A number, its lowest bit first.
     fn number(&mut self, value: usize, count: usize) {
         for i in 0..count {
-            if self.used % 8 == 0 {
+            let place = self.used % 8;
+            if place == 0 {
                 self.bytes.push(0);
             }
-            *self.bytes.last_mut().unwrap() |= ((value >> i & 1) as u8) << (self.used % 8);
+            *self.bytes.last_mut().unwrap() |= ((value >> i & 1) as u8) << place;
             self.used += 1;
         }
     }

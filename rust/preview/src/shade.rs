@@ -21,14 +21,23 @@ fn shade(heights: &Heights, index: usize, grid: &Grid) -> u8 {
     (light.min(1.0) * 50.0).round() as u8 * 5
 }
 
-/// How far the heights rise to the right and downward in the picture, per unit of length, over two pixels each way.
+/// How far the heights rise to the right and downward in the picture, per unit of length.
 fn slope(heights: &Heights, index: usize, grid: &Grid) -> [f64; 2] {
     let width = heights.width;
     let (column, row) = (index % width, index / width);
     let z = |column: usize, row: usize| heights.values[row * width + column] as f64 * grid.zstep as f64;
-    let (left, right) = (column.saturating_sub(2), (column + 2).min(width - 1));
-    let (up, down) = (row.saturating_sub(2), (row + 2).min(heights.height - 1));
-    let east = (z(right, row) - z(left, row)) / (4.0 * grid.xstep as f64);
-    let south = (z(column, down) - z(column, up)) / (4.0 * grid.ystep as f64);
+    let ([left, right], [up, down]) = (around(column, width), around(row, heights.height));
+    let east = (z(right, row) - z(left, row)) / length([left, right], grid.xstep);
+    let south = (z(column, down) - z(column, up)) / length([up, down], grid.ystep);
     [east, south]
+}
+
+/// The pixels between which a slope is taken: two each way, or as many as there are.
+fn around(place: usize, count: usize) -> [usize; 2] {
+    [place.saturating_sub(2), (place + 2).min(count - 1)]
+}
+
+/// The length from one pixel to another, or of one step where they are the same, between which nothing rises.
+fn length([from, to]: [usize; 2], step: i32) -> f64 {
+    (to - from).max(1) as f64 * step as f64
 }

@@ -4,15 +4,15 @@ use super::arith::Span;
 use super::run::{Slots, run_ranges, run_values};
 use super::shorten::shorten;
 use super::word::words;
-use super::{CLAUSES, Choices, Level, axis, sample};
+use super::{Choices, Level, MAX_CLAUSES, axis, sample};
 use layers::Grid;
 
 /// Draws into the picture, whatever it held, and returns the walk's count.
 pub fn tile_solid(tape: &[u8], grid: Grid, picture: &mut [u16]) -> u64 {
     picture.fill(0);
-    let mut walk = Walk { grid, picture, choices: [0; CLAUSES], ranges: Slots::new(), values: [0; 64], count: 0 };
+    let mut walk = Walk { grid, picture, choices: [0; MAX_CLAUSES], ranges: Slots::new(), values: [0; 64], count: 0 };
     let all = Region { x: 0, xend: grid.width, y: 0, yend: grid.height, z: 0, zend: grid.depth };
-    walk.visit_children(&words(tape), all, 64, &mut [[0; CLAUSES]; 3]);
+    walk.visit_children(&words(tape), all, 64, &mut [[0; MAX_CLAUSES]; 3]);
     walk.count
 }
 

@@ -63,13 +63,15 @@ fn crc(bytes: &[u8]) -> u32 {
     let bits = bytes.iter().flat_map(|byte| (0..8).map(move |i| u32::from(byte >> i & 1)));
     let rest = bits.fold(u32::MAX, |rest, bit| {
         let over = rest >> 31 ^ bit;
-        rest << 1 ^ over * 0x04C1_1DB7
+        (rest << 1) ^ (over * 0x04C1_1DB7)
     });
     !rest.reverse_bits()
 }
 
 fn inflated(data: &[u8]) -> Result<Vec<u8>, &'static str> {
-    if data.len() < 6 || u16::from_be_bytes([data[0], data[1]]) % 31 != 0 || data[0] != 0x78 || data[1] & 0x20 != 0 {
+    let head = data.first_chunk().filter(|_| data.len() >= 6).ok_or("head of the data")?;
+    let over = u16::from_be_bytes(*head) % 31;
+    if over != 0 || head[0] != 0x78 || head[1] & 0x20 != 0 {
         return Err("head of the data");
     }
     let (blocks, sum) = data[2..].split_at(data.len() - 6);
@@ -79,7 +81,7 @@ fn inflated(data: &[u8]) -> Result<Vec<u8>, &'static str> {
         a += u64::from(*byte);
         b += a;
     }
-    let asked = ((b % 65_521) << 16 | a % 65_521) as u32;
+    let asked = (((b % 65_521) << 16) | (a % 65_521)) as u32;
     if number(sum, 0)? == asked { Ok(out) } else { Err("check sum of the data") }
 }
 

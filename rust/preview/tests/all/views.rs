@@ -1,6 +1,7 @@
 //! What is seen in the files.
 
 use crate::decoder::{Decoded, decode};
+use preview::shade::shades;
 use preview::view::view;
 use preview::{Bitmap, Fault, Grid, Heights, Picture};
 
@@ -75,6 +76,24 @@ fn the_light_is_in_the_upper_left() {
     let (to_right, to_left) = (ramp(grid, |column, _| 1 + column), ramp(grid, |column, _| 9 - column));
     let (to_bottom, to_top) = (ramp(grid, |_, row| 1 + row), ramp(grid, |_, row| 9 - row));
     assert_eq!([level, to_right, to_left, to_bottom, to_top], [150, 155, 75, 160, 70]);
+}
+
+/// The greys of the first 9 by 9 pixels of a picture of more.
+fn greys(side: usize, height: fn(usize, usize) -> usize) -> Vec<u8> {
+    let values = (0..side * side).map(|index| height(index % side, index / side) as u16).collect();
+    let greys = shades(&Heights { width: side, height: side, values }, &solid(side, side, 40));
+    greys.chunks(side).take(9).flat_map(|row| row[..9].to_vec()).collect()
+}
+
+#[test]
+fn a_slope_is_as_steep_at_the_border() {
+    let ramps: [fn(usize, usize) -> usize; 3] =
+        [|column, _| 40 - 2 * column, |_, row| 1 + 2 * row, |column, row| 20 + column - row];
+    for ramp in ramps {
+        assert_eq!(greys(9, ramp), greys(17, ramp));
+    }
+    // one pixel has no neighbour to rise to
+    assert_eq!(seen_heights(solid(1, 1, 10), vec![5]).pixel(0, 0), 150);
 }
 
 #[test]

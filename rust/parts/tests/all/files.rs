@@ -1,5 +1,6 @@
 //! The example parts are within the limits, and the files of the repository are theirs.
 
+use crate::common::value_at;
 use parts::{Part, all, picture};
 use std::path::{Path, PathBuf};
 
@@ -51,14 +52,13 @@ fn the_core_sees_the_formula() {
         let part = design.part();
         let mut formula = parts::formula::Formula::default();
         let result = design.shape.formula(&mut formula);
-        let (rows, _) = picture::flat(&part, part.flat);
+        let drawn = picture::flat(&part).picture;
         for index in (0..512 * 512).step_by(101) {
             let (row, column) = (index / 512, index % 512);
-            let x = part.flat.xfirst as i64 + column * part.flat.xstep as i64;
-            let y = part.flat.yfirst as i64 + row * part.flat.ystep as i64;
-            let bit = rows[index as usize / 8] >> (7 - column % 8) & 1;
-            let value = formula.value_at(result, [x, y, part.flat.zfirst as i64]);
-            assert_eq!(bit == 1, value < 0, "{} at {column}, {row}", part.name);
+            let x = part.flat.xfirst + column as i32 * part.flat.xstep;
+            let y = part.flat.yfirst + row as i32 * part.flat.ystep;
+            let value = value_at(&formula, result, [x, y, part.flat.zfirst].map(i128::from));
+            assert_eq!(drawn.pixel(column, row), value < 0, "{} at {column}, {row}", part.name);
         }
     }
 }
@@ -68,7 +68,7 @@ fn the_core_sees_the_formula() {
 fn boxes_hold_their_parts() {
     for part in all() {
         let n = 128;
-        let (heights, _) = picture::solid(&part, part.solid);
+        let heights = picture::solid(&part, part.solid).picture.into_vec();
         for i in 0..n {
             let border = [heights[i], heights[(n - 1) * n + i], heights[i * n], heights[i * n + n - 1]];
             assert_eq!(border, [0; 4], "{} at {i}", part.name);

@@ -1,19 +1,13 @@
 //! Each shape has its material where it should.
 
-mod common;
-
-use common::Random;
-use parts::formula::{Formula, fixed};
+use crate::common::{Random, value_at};
+use parts::formula::{Formula, nearest};
 use parts::shape::*;
 
-fn value(shape: &Shape, place: [f64; 3]) -> i64 {
+fn material(shape: &Shape, place: [f64; 3]) -> bool {
     let mut formula = Formula::default();
     let result = shape.formula(&mut formula);
-    formula.value_at(result, place.map(|c| fixed(c) as i64))
-}
-
-fn material(shape: &Shape, place: [f64; 3]) -> bool {
-    value(shape, place) < 0
+    value_at(&formula, result, place.map(|c| i128::from(nearest(c)))) < 0
 }
 
 /// Checks a shape against a rule at random places, but for those within a hair of its surface.

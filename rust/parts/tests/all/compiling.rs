@@ -1,38 +1,14 @@
-//! A list tells what its formula tells, within its slots.
+//! A tape tells what its formula tells, within its slots.
 
-mod common;
-
-use common::Random;
+use crate::common::{Random, value_at};
+use layers::{Clause, MAX_SLOTS, Opcode, Tape};
 use parts::examples::designs;
-use parts::formula::{Formula, Id, M, Op};
-use parts::slots::{CLAUSE_LIMIT, List, SLOT_LIMIT, TooBig, compile};
+use parts::formula::{Formula, Id};
+use parts::slots::{TooBig, compile};
 
-const OPS: [Op; 13] = [
-    Op::Constant,
-    Op::X,
-    Op::Y,
-    Op::Z,
-    Op::Negate,
-    Op::Absolute,
-    Op::Square,
-    Op::Root,
-    Op::Add,
-    Op::Subtract,
-    Op::Multiply,
-    Op::Minimum,
-    Op::Maximum,
-];
-
-/// The list's result at a sample: the slot written by the last clause.
-fn run(list: &List, sample: [i64; 3]) -> i64 {
-    let mut slots = vec![0; list.slots];
-    let mut result = 0;
-    for clause in list.numbers.chunks(5) {
-        let op = OPS.into_iter().find(|op| *op as i32 == clause[0]).unwrap();
-        result = op.apply(clause[4], sample, slots[clause[2] as usize], slots[clause[3] as usize]);
-        slots[clause[1] as usize] = result;
-    }
-    result
+/// The tape's result at a sample, by the slow drawing.
+fn run(tape: &Tape, sample: [i128; 3]) -> i128 {
+    slow::tape::Tape::from_bytes(tape.as_bytes()).expect("an accepted tape").value_at(sample)
 }
 
 #[test]
@@ -41,11 +17,12 @@ fn parts_have_the_values_of_their_formulas() {
     for design in designs() {
         let mut formula = Formula::default();
         let result = design.shape.formula(&mut formula);
-        for slots in [SLOT_LIMIT, 32] {
-            let list = compile(&formula, result, slots).unwrap();
-            for reach in [50 << 16, 50 << 16, 300 << 16, M] {
+        for slots in [MAX_SLOTS, 32] {
+            let tape = compile(&formula, result, slots).unwrap();
+            for reach in [50 << 16, 50 << 16, 300 << 16, i32::MAX] {
                 for sample in [0; 100].map(|_| random.sample(reach)) {
-                    assert_eq!(run(&list, sample), formula.value_at(result, sample), "{} at {sample:?}", design.name);
+                    let expected = value_at(&formula, result, sample);
+                    assert_eq!(run(&tape, sample), expected, "{} at {sample:?}", design.name);
                 }
             }
         }
@@ -57,10 +34,10 @@ fn tangle(random: &mut Random, nodes: usize) -> (Formula, Id) {
     let mut formula = Formula::default();
     let mut made = vec![formula.axis(0), formula.axis(1), formula.axis(2)];
     for _ in 0..nodes {
-        let op = OPS[random.below(13) as usize];
+        let op = Opcode::ALL[random.below(14) as usize];
         let a = made[random.below(made.len() as u64) as usize];
         let b = made[random.below(made.len() as u64) as usize];
-        made.push(match op.arity() {
+        made.push(match op.reads() {
             0 => formula.constant(random.below(1 << 20) as i32 - (1 << 19)),
             1 => formula.unary(op, a),
             _ => formula.binary(op, a, b),
@@ -75,14 +52,13 @@ fn tangled_formulas_keep_their_values_in_few_slots() {
     for _ in 0..2000 {
         let nodes = 1 + random.below(60) as usize;
         let (formula, result) = tangle(&mut random, nodes);
-        let roomy = compile(&formula, result, SLOT_LIMIT).unwrap();
-        let lists = (1..roomy.slots).filter_map(|slots| compile(&formula, result, slots).ok());
-        for list in lists.chain([roomy.clone()]) {
-            assert!(list.clauses() >= roomy.clauses());
-            assert!(list.clauses() > roomy.clauses() || list == roomy);
-            list.pack();
+        let roomy = compile(&formula, result, MAX_SLOTS).unwrap();
+        let tapes = (1..roomy.slots()).filter_map(|slots| compile(&formula, result, slots).ok());
+        for tape in tapes.chain([roomy.clone()]) {
+            let (count, least) = (tape.clauses().len(), roomy.clauses().len());
+            assert!(count > least || (count == least && tape == roomy));
             for sample in [0; 5].map(|_| random.sample(100 << 16)) {
-                assert_eq!(run(&list, sample), formula.value_at(result, sample));
+                assert_eq!(run(&tape, sample), value_at(&formula, result, sample));
             }
         }
     }
@@ -91,8 +67,7 @@ fn tangled_formulas_keep_their_values_in_few_slots() {
 #[test]
 fn half_the_slots_do_for_every_part() {
     for design in designs() {
-        let list = design.compiled(SLOT_LIMIT / 2).unwrap();
-        assert!(list.slots <= SLOT_LIMIT / 2 && list.clauses() <= CLAUSE_LIMIT);
+        assert!(design.compiled(MAX_SLOTS / 2).unwrap().slots() <= MAX_SLOTS / 2);
     }
 }
 
@@ -103,8 +78,8 @@ fn products(count: i32) -> (Formula, Id) {
     let mut sum = x;
     for i in 1..=count {
         let (more, less) = (formula.less(x, -i), formula.less(x, i));
-        let product = formula.binary(Op::Multiply, more, less);
-        sum = formula.binary(Op::Add, sum, product);
+        let product = formula.binary(Opcode::Multiply, more, less);
+        sum = formula.binary(Opcode::Add, sum, product);
     }
     (formula, sum)
 }
@@ -116,14 +91,14 @@ fn what_does_not_fit_is_turned_down() {
     assert!(compile(&formula, result, 4).is_ok());
     // One load of x, five clauses a product.
     let (formula, result) = products(204);
-    assert_eq!(compile(&formula, result, SLOT_LIMIT).unwrap().clauses(), 1021);
+    assert_eq!(compile(&formula, result, MAX_SLOTS).unwrap().clauses().len(), 1021);
     let (formula, result) = products(205);
-    assert_eq!(compile(&formula, result, SLOT_LIMIT), Err(TooBig::Clauses(1026)));
+    assert_eq!(compile(&formula, result, MAX_SLOTS), Err(TooBig::Clauses(1026)));
 }
 
 #[test]
 fn a_formula_of_one_node_is_one_clause() {
     let mut formula = Formula::default();
     let y = formula.axis(1);
-    assert_eq!(compile(&formula, y, SLOT_LIMIT).unwrap(), List { slots: 1, numbers: vec![2, 0, 0, 0, 0] });
+    assert_eq!(compile(&formula, y, MAX_SLOTS), Ok(Tape::from_clauses(1, &[Clause::y(0)]).unwrap()));
 }
