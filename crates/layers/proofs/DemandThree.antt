@@ -1,12 +1,13 @@
 -- Demand 3 of the calls: a tile drawing that is not turned down leaves the full drawing's picture, whatever the lent buffers
--- held, and counts the walk's sum, each 64-tile's part of which is bounded.
+-- held, and counts the walk's sum, each 64-tile's part of which is bounded; and every short tape of its regions has the
+-- whole tape's value at every sample of the region.
 use mathlib.Core.Path.{_≡_, sym, ap, _∙_}
 use mathlib.Core.Bool.{Bool, true, false}
-use mathlib.Core.List.{List}
+use mathlib.Core.List.{List, map}
 use Prim.Native.Nat.{ℕ, _*_, _≤_}
 use lib.ListN.{length}
 use borrow.Author.Tests.{eq-eqb}
-use Rattle.rules.specs.Tapes.{readTape}
+use Rattle.rules.specs.Tapes.{valueAt, readTape}
 use Rattle.rules.specs.Drawings as D
 use Rattle.rules.specs.Pictures.{picture}
 use Rattle.rules.proofs.Tiles.{demand-3}
@@ -21,6 +22,10 @@ use Rattle.layers.proofs.Drawing.{first-left, first-right, clear}
 pub record DrawnByTiles (isSolid : Bool) (s : List ℕ) (d : Grid) (o′ : List ℕ) (count : ℕ) : Type 0 where
   pub full : let g = gridIn d isSolid in o′ ≡ picture isSolid g (D.drawn (readTape s .tape) g)
   pub sum : count ≡ D.walked (readTape s .tape) (gridIn d isSolid) .clauses
+  pub same-value : let t = readTape s .tape in
+      let g = gridIn d isSolid in
+      (rs : List D.Region) → D.InWalk g rs → (i j k : ℕ) → D.InGrid g i j k → D.Inside (D.lastIn D.whole rs) i j k
+      → valueAt (D.shortAfter t (map (D.boxOf g) rs)) (D.sampleAt g i j k) ≡ valueAt t (D.sampleAt g i j k)
   pub part-flat : isSolid ≡ false → (r : D.Region) (u : D.State) → r .long ≡ 64
       → D.partOf (readTape s .tape) (gridIn d isSolid) r u ≤ D.flatBound * length (readTape s .tape .clauses)
   pub part-solid : isSolid ≡ true → (r : D.Region) (u : D.State) → r .long ≡ 64
@@ -40,6 +45,7 @@ by-tiles t s d o o′ w w′ r f e =
     record {
       full = (f .pixels ∙ rw k) ∙ ap (picture t g) (tiles .same-picture g t kind (c .grid));
       sum = f .answer .count ∙ rw k;
+      same-value = λ rs p i j m n h. tiles .same-value-in-walk g t kind (c .grid) rs p i j m n h;
       part-flat = λ h q u l. tiles .part-flat g q u (sym kind ∙ h) (ap (λ b. D.gridFault b g) (sym h) ∙ c .grid) l;
       part-solid = λ h q u l. tiles .part-solid g q u (sym kind ∙ h) (ap (λ b. D.gridFault b g) (sym h) ∙ c .grid) l;
     }

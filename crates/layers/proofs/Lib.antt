@@ -3,4 +3,5 @@ pub mod Answers
 pub mod Refusals
 pub mod Drawing
 pub mod Tiling
+pub mod DemandTwo
 pub mod DemandThree

@@ -7,7 +7,7 @@ use Prim.Native.Nat.{ℕ, _*_}
 use lib.Dec.{eqb, ltb, leb}
 use lib.ListN.{length, replicate}
 use Rattle.rules.specs.Values.{pick, firstOf, when}
-use Rattle.rules.specs.Tapes.{Got, clauseLimit, readTape, readList, tapeBytes, listOf}
+use Rattle.rules.specs.Tapes.{Got, clauseLimit, readTape, readList, tapeBytes, listOf, allBytes}
 use Rattle.rules.specs.Drawings as D
 use Rattle.rules.specs.Pictures.{stride, sidesOk, picture, pictureSize, bitmapFile, heightFile}
 use Rattle.code.specs.Unpacking.{Unpacked}
@@ -37,7 +37,9 @@ pub record PackSays (n : ℕ) (zs : List ℤ) (o o′ : List ℕ) (r : Answer) :
   pub answer : let g = readList n zs in Answered (copyFault g (tapeBytes (g .tape)) o) (g .place) 0 r
   pub out : let b = tapeBytes (readList n zs .tape) in o′ ≡ written (copyFault (readList n zs) b o) b o
 
+-- What is lent to unpacking are bytes, as its type says: so packing what it gave gives them again.
 pub record UnpackSays (s : List ℕ) (o o′ : List ℤ) (r : Listed) : Type 0 where
+  pub lent : allBytes s ≡ true
   pub answer : let g = readTape s in Answered (copyFault g (listOf (g .tape .clauses)) o) (g .place) 0 (r .answer)
   pub slots : let g = readTape s in r .slots ≡ pick (eqb (copyFault g (listOf (g .tape .clauses)) o) 0) (g .tape .slots) 0
   pub out : let b = listOf (readTape s .tape .clauses) in o′ ≡ written (copyFault (readTape s) b o) b o

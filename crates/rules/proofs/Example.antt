@@ -2,13 +2,15 @@
 -- and a skipped region, and what their walks give, by computation alone.
 use mathlib.Core.Path.{_≡_, refl}
 use mathlib.Core.Bool.{Bool, true, false}
+use mathlib.Core.Logic.{inl, inr}
 use mathlib.Core.List.{List, [], _∷_, map}
 use lib.IntN.{pos}
 use Prim.Native.Nat.{ℕ, _*_}
+use native.Mathlib.Omega.{arith}
 use lib.ListN.{length, take, replicate}
 use Rattle.rules.specs.Values.{isNeg, smaller, larger, sum, difference, product, square, rootFrom, rootOf, unaryValue, binaryValue, valueOf, sumR, differenceR, productR, negR, holdsZero, absoluteR, squareR, rootR, smallerR, largerR, unaryRange, binaryRange, rangeOf, sideBelow, sideAbove, choiceOf}
 use Rattle.rules.specs.Tapes.{Tape, runFrom, valueAt, material, rangeFrom, rangeOver, choicesFrom, reads, isIn, without, onClause, shortFrom, lastOut, shortened, badSlot, badUnused, badConstant, badRead, clauseFault, faultFrom, readClauses, countsOk, signed4, rawIn, rawsFrom, headOk, readTape, rawsOf, readList, tapeBytes, listOf, allBytes, allIn32}
-use Rattle.rules.specs.Drawings.{Grid, solid, sampleAt, gridFault, columnFrom, rowFrom, rowsFrom, drawn, Region, region, lesser, boxOf, state, raiseRow, raiseRows, filled, rowHigh, rowsHigh, hidden, alongX, alongY, alongZ, children, fold, shortTape, onSample, visit, sides, whole, walked, flatBound, partOf, Tiles}
+use Rattle.rules.specs.Drawings.{Grid, solid, sampleAt, gridFault, columnFrom, rowFrom, rowsFrom, drawn, Region, region, lesser, boxOf, state, raiseRow, raiseRows, filled, rowHigh, rowsHigh, hidden, alongX, alongY, alongZ, children, fold, shortTape, onSample, visit, sides, whole, walked, flatBound, partOf, shortAfter, OneOf, Nested, InWalk, lastIn, Tiles}
 use Rattle.rules.specs.Pictures.{byteOf, rowBytes, bitsOf, picture, digitsFrom, head, cleanRow, cleanRows, bitmapFile}
 use Rattle.rules.proofs.Bytes.{both-ways}
 use Rattle.rules.proofs.Tiles.{demand-3}
@@ -104,6 +106,13 @@ sixteen = region 0 0 0 16
 abbrev pub sixteenTape : Tape
 sixteenTape = shortTape (tileTape tenSolid) tenSolid sixteen
 
+-- The second 8-region of the first tile, which the flat walk cuts, and the tape that its samples are run with.
+abbrev pub downTo : List Region
+downTo = tile ∷ (region 8 0 0 8 ∷ [])
+
+abbrev pub downTape : Tape
+downTape = shortAfter ten (map (boxOf tenFlat) downTo)
+
 -- A tape and a grid are accepted, and the walk gives the full drawing's heights, with this count.
 pub record Checked (s : List ℕ) (isSolid : Bool) (g : Grid) (count : ℕ) : Type 0 where
   pub tape : readTape s .number ≡ 0
@@ -128,6 +137,10 @@ pub record Computed : Type 0 where
   pub flat-tiles : map (signs ten tenFlat) (children tenFlat whole 64) ≡ cuts ∷ (cuts ∷ [])
   pub flat-eights : map (signs (tileTape tenFlat) tenFlat) (take 3 (children tenFlat tile 8))
       ≡ fills ∷ (cuts ∷ (skips ∷ []))
+  -- From ten clauses the tape comes down to three: the subtraction from x and the two that it reads.
+  pub flat-down : InWalk tenFlat downTo
+  pub flat-short : length (downTape .clauses) ≡ 3
+  pub flat-value : valueAt downTape (sampleAt tenFlat 9 7 0) ≡ valueAt ten (sampleAt tenFlat 9 7 0)
   pub flat-ones : length (children tenFlat (region 8 0 0 8) 1) ≡ 64
   -- The solid walk cuts its 64-tile and the region of side 16 in it. Of those of side 4 the first two are skipped, the
   -- third is filled, the fourth cut to samples, and the fifth is hidden by the third.
@@ -152,7 +165,7 @@ pub record Computed : Type 0 where
   pub three-heights : walked (three 3) threeSolid .heights ≡ 2 ∷ []
 
 pub computed : Computed
-unfolding allBytes allIn32 listOf rawsOf readList readTape headOk countsOk rawsFrom rawIn signed4 readClauses faultFrom clauseFault badSlot badUnused badConstant badRead gridFault drawn rowsFrom rowFrom columnFrom partOf walked sides visit onSample fold children alongZ alongY alongX hidden rowsHigh rowHigh filled raiseRows raiseRow boxOf lesser sampleAt shortened lastOut shortFrom onClause isIn without reads choicesFrom rangeOver rangeFrom material valueAt runFrom choiceOf sideAbove sideBelow rangeOf binaryRange unaryRange largerR smallerR rootR squareR absoluteR holdsZero negR productR differenceR sumR valueOf binaryValue unaryValue rootOf rootFrom square product difference sum larger smaller bitmapFile cleanRows cleanRow head digitsFrom picture bitsOf rowBytes byteOf
+unfolding Nested OneOf shortAfter allBytes allIn32 listOf rawsOf readList readTape headOk countsOk rawsFrom rawIn signed4 readClauses faultFrom clauseFault badSlot badUnused badConstant badRead gridFault drawn rowsFrom rowFrom columnFrom partOf walked sides visit onSample fold children alongZ alongY alongX hidden rowsHigh rowHigh filled raiseRows raiseRow boxOf lesser sampleAt shortened lastOut shortFrom onClause isIn without reads choicesFrom rangeOver rangeFrom material valueAt runFrom choiceOf sideAbove sideBelow rangeOf binaryRange unaryRange largerR smallerR rootR squareR absoluteR holdsZero negR productR differenceR sumR valueOf binaryValue unaryValue rootOf rootFrom square product difference sum larger smaller bitmapFile cleanRows cleanRow head digitsFrom picture bitsOf rowBytes byteOf
 computed =
     record {
       ten-flat = checked refl refl refl refl refl;
@@ -162,6 +175,9 @@ computed =
       ten-words = refl;
       flat-tiles = refl;
       flat-eights = refl;
+      flat-down = (inl refl, (inr (inl refl), tt));
+      flat-short = refl;
+      flat-value = refl;
       flat-ones = refl;
       solid-tiles = refl;
       solid-sixteens = refl;
@@ -187,6 +203,12 @@ flat-by-theorem = ten-tiles .same-picture tenFlat false (computed .ten-flat .kin
 
 pub solid-by-theorem : walked ten tenSolid .heights ≡ drawn ten tenSolid
 solid-by-theorem = ten-tiles .same-picture tenSolid true (computed .ten-solid .kind) (computed .ten-solid .grid)
+
+pub value-by-theorem : valueAt downTape (sampleAt tenFlat 9 7 0) ≡ valueAt ten (sampleAt tenFlat 9 7 0)
+unfolding lastIn
+value-by-theorem =
+    ten-tiles .same-value-in-walk tenFlat false (computed .ten-flat .kind) (computed .ten-flat .grid) downTo
+    (computed .flat-down) 9 7 0 (omega arith) (omega arith)
 
 pub ten-by-tape : (tapeBytes ten ≡ tenBytes) × (readList (ten .slots) (listOf (ten .clauses)) ≡ readTape tenBytes)
 ten-by-tape = both-ways .by-tape tenBytes (computed .ten-bytes) (computed .ten-flat .tape)

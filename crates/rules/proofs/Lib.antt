@@ -23,6 +23,7 @@ pub mod Samples
 pub mod Columns
 pub mod Walk
 pub mod Heights
+pub mod Nested
 pub mod Tiles
 pub mod Bytes
 pub mod RestatedValues

@@ -13,20 +13,7 @@ use borrow.Author.Tests.{ltb-true, leb-true, leb-false, lt-ltb, not-false}
 use Rattle.rules.specs.Values.{pick}
 use Rattle.rules.specs.Drawings.{sizeLimit, Grid, solid, layers, Region, region, lesser, pastX, pastY, pastZ, over, alongX, alongY, alongZ, children, sides, whole, sizeOk, sizesOk, gridFault}
 use Rattle.rules.proofs.Tests.{and-left, and-right, test-off, of-pick}
-
--- The index triple (x, y, z) lies in the region, not cut at the grid's edge; and in the grid.
-pub record Inside (r : Region) (x y z : ℕ) : Type 0 where
-  pub x-from : r .i ≤ x
-  pub x-to : x < r .i + r .long
-  pub y-from : r .j ≤ y
-  pub y-to : y < r .j + r .long
-  pub z-from : r .k ≤ z
-  pub z-to : z < r .k + r .long
-
-pub record InGrid (g : Grid) (x y z : ℕ) : Type 0 where
-  pub x-in : x < g .width
-  pub y-in : y < g .height
-  pub z-in : z < layers g
+pub use Rattle.rules.specs.Drawings.{Inside, InGrid}
 
 -- The region begins inside the grid.
 pub record Begins (g : Grid) (r : Region) : Type 0 where

@@ -17,6 +17,7 @@ use Rattle.rules.specs.Tapes.{Tape}
 use Rattle.rules.specs.Drawings.{Grid, solid, layers, Region, region, pastX, pastY, pastZ, State, state, hidden, filled, over, alongX, fold, fillIn, sides}
 use Rattle.rules.proofs.RestatedValues.{range-same, plus, plus-same, times, times-same, size, size-same, below, below-same}
 use Rattle.rules.proofs.RestatedTapes.{countCl, count-same, valueAt, value-at-same, material, material-same, rangeOver, range-over-same, shortened, shortened-same, readTape, read-tape-same}
+use Rattle.rules.proofs.Tiles.{demand-3}
 
 -- Samples.
 abbrev pub at : ℤ → ℤ → ℕ → ℤ
@@ -386,7 +387,7 @@ unfolding Drawings.inAll
 in-all-same s [] = refl
 in-all-same s (b ∷ bs) = cc (in-box-same s b, box-ok-same b, in-all-same s bs)
 
--- Demand 3, as it was first stated, follows from demand 3 as it is stated here.
+-- Demand 3, as it was first stated, follows from demand 3 as it is stated here, which also speaks of the walk's own regions.
 pub record Tiles (t : Tape) : Type 0 where
   pub same-picture : (g : Grid) (isSolid : Bool) → isSolid ≡ solid g → gridFault isSolid g ≡ 0
       → walked t g .heights ≡ drawn t g
@@ -425,3 +426,6 @@ tiles-same t d =
 
 pub demand-3-same : Drawings.Demand-3 → Demand-3
 demand-3-same d b e = rw (read-tape-same b) (tiles-same (Tapes.readTape b .tape) (d b (rw (read-tape-same b) at e)))
+
+pub demand-3-restated : Demand-3
+demand-3-restated = demand-3-same demand-3

@@ -1,9 +1,10 @@
 -- Grids, full drawings, the walk by tiles with its count; demand 3.
 use mathlib.Core.Path.{_≡_}
 use mathlib.Core.Bool.{Bool, true, false, _&&_, _||_, not}
-use mathlib.Core.List.{List, [], _∷_, _++_}
+use mathlib.Core.Logic.{_⊎_}
+use mathlib.Core.List.{List, [], _∷_, _++_, map}
 use lib.IntN.{ℤ, pos, _+ℤ_, _*ℤ_}
-use Prim.Native.Nat.{ℕ, zero, suc, _+_, _-_, _*_, _/_, _≤_}
+use Prim.Native.Nat.{ℕ, zero, suc, _+_, _-_, _*_, _/_, _<_, _≤_}
 use lib.Dec.{ltb, leb}
 use lib.ListN.{length, getD, set, replicate}
 use Rattle.rules.specs.Values.{pick, firstOf, when, isNeg, below, reaches, Sample, Range, range, Box}
@@ -267,12 +268,50 @@ unfoldable pub inAll : Sample → List Box → Bool
 inAll s [] = true
 inAll s (b ∷ bs) = inBox s b && (boxOk b && inAll s bs)
 
+-- "A region of side 64 has the whole tape, any other its parent's short tape." Regions that lie in one another as the walk's
+-- do: the first is one of r's children of the first side, each next one is one of the children, of the next side, of the
+-- one before. From the whole on, with the side 64 and those after it, the first is a 64-tile.
+unfoldable pub OneOf : Region → List Region → Type 0
+OneOf r [] = ⊥
+OneOf r (q ∷ qs) = (r ≡ q) ⊎ OneOf r qs
+
+unfoldable pub Nested : Grid → Region → List ℕ → List Region → Type 0
+Nested g r ns [] = Unit {0}
+Nested g r [] (q ∷ qs) = ⊥
+Nested g r (n ∷ ns) (q ∷ qs) = OneOf q (children g r n) × Nested g q ns qs
+
+abbrev pub InWalk : Grid → List Region → Type 0
+InWalk g rs = Nested g whole (64 ∷ sides g) rs
+
+-- The last of them; r, if there are none.
+unfoldable pub lastIn : Region → List Region → Region
+lastIn r [] = r
+lastIn r (q ∷ qs) = lastIn q qs
+
+-- The index triple (x, y, z) lies in the region, not cut at the grid's edge; and in the grid.
+pub record Inside (r : Region) (x y z : ℕ) : Type 0 where
+  pub x-from : r .i ≤ x
+  pub x-to : x < r .i + r .long
+  pub y-from : r .j ≤ y
+  pub y-to : y < r .j + r .long
+  pub z-from : r .k ≤ z
+  pub z-to : z < r .k + r .long
+
+pub record InGrid (g : Grid) (x y z : ℕ) : Type 0 where
+  pub x-in : x < g .width
+  pub y-in : y < g .height
+  pub z-in : z < layers g
+
 -- Demand 3, of one tape: the tile drawing is the full drawing; a shortened tape has the full tape's value at every sample
--- of its region; a range holds every value over its box; and the bound of the count in each 64-tile.
+-- of its region, said of any boxes that hold the sample and of the walk's own regions; a range holds every value over its
+-- box; and the bound of the count in each 64-tile.
 pub record Tiles (t : Tape) : Type 0 where
   pub same-picture : (g : Grid) (isSolid : Bool) → isSolid ≡ solid g → gridFault isSolid g ≡ 0
       → walked t g .heights ≡ drawn t g
   pub same-value : (bs : List Box) (s : Sample) → inAll s bs ≡ true → valueAt (shortAfter t bs) s ≡ valueAt t s
+  pub same-value-in-walk : (g : Grid) (isSolid : Bool) → isSolid ≡ solid g → gridFault isSolid g ≡ 0
+      → (rs : List Region) → InWalk g rs → (i j k : ℕ) → InGrid g i j k → Inside (lastIn whole rs) i j k
+      → valueAt (shortAfter t (map (boxOf g) rs)) (sampleAt g i j k) ≡ valueAt t (sampleAt g i j k)
   pub in-range : (b : Box) (s : Sample) → inBox s b ≡ true → boxOk b ≡ true
       → within (valueAt t s) (rangeOver t b) ≡ true
   pub part-flat : (g : Grid) (r : Region) (s : State) → solid g ≡ false → gridFault false g ≡ 0 → r .long ≡ 64

@@ -1,6 +1,6 @@
 -- Unpacking, with the count of a call that draws nothing.
 use mathlib.Core.Path.{refl}
-use Rattle.layers.proofs.Answers.{uncounted}
+use Rattle.layers.proofs.Answers.{uncounted, bytes-lent}
 use borrow.Author.Needs.{needs}
 use Rattle.layers.proofs.unpack_tape.Statement.{statement}
 use Rattle.layers.proofs.unpack_tape.Tie as tie
@@ -13,8 +13,15 @@ same-length c = search needs
 
 returns : tie.Need-returns
 returns c =
-    let p = c .before .unpack .ensures in
-    record { answer = uncounted (p .number) (p .place) refl; slots = p .slots; out = p .out }
+    let call = c .before in
+    let entry = call .before .before in
+    let p = call .unpack .ensures in
+    record {
+      lent = bytes-lent _ (λ j. entry .shared-slice-known .given j .fits);
+      answer = uncounted (p .number) (p .place) refl;
+      slots = p .slots;
+      out = p .out;
+    }
 
 pub unpack-tape-spec : {M : Type 1} → statement M
 unpack-tape-spec = tie.close (tie.spec unpack-requires same-length returns)
