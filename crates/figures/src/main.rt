@@ -1,0 +1,21 @@
+// The figures of the scope paper that are run, by the public calls: tapes, both files, and the limits. What comes back is
+// written, number, place and count.
+mod files;
+mod given;
+mod limits;
+mod say;
+mod tapes;
+
+fn main() {
+    tapes::example();
+    tapes::least_constant();
+    files::flat();
+    files::flat_in_full();
+    files::solid();
+    files::solid_in_full();
+    limits::most_clauses();
+    limits::too_many_clauses();
+    limits::sizes();
+    limits::flat_work();
+    limits::solid_work();
+}

@@ -1,0 +1,27 @@
+// Packing and unpacking.
+use crate::say;
+use layers::pack_tape;
+use layers::unpack_tape;
+
+// The example: x in slot 0, the constant 131,072 in 1, subtract of 0, 1 into 0; packed, and unpacked again.
+pub fn example() {
+    let list = [1i32, 0, 0, 0, 0, 0, 1, 0, 0, 131072, 10, 0, 0, 1, 0];
+    let mut bytes = [255u8; 38];
+    say::answer(b"packed", pack_tape(2, &list, &mut bytes));
+    say::bytes(&bytes);
+    let mut back = [-1i32; 15];
+    let listed = unpack_tape(&bytes, &mut back);
+    say::answer(b"unpacked", listed.answer);
+    say::figure(b"slots", listed.slots as u16);
+    let mut again = [255u8; 38];
+    say::answer(b"packed again", pack_tape(2, &back, &mut again));
+    say::bytes(&again);
+}
+
+// The least number is no constant; the second clause's place comes with it.
+pub fn least_constant() {
+    let list = [0i32, 0, 0, 0, 5, 0, 0, 0, 0, -2147483648];
+    let mut bytes = [255u8; 28];
+    say::answer(b"the least constant", pack_tape(1, &list, &mut bytes));
+    say::bytes(&bytes);
+}
