@@ -1,6 +1,6 @@
-//! The script `./draw`, run as a person would, in a scratch repository where everything is proved: `rt`, `cargo` and the
-//! preview are stubs there, the program is the proved one. Each test is a failure that once looked like success, hung or
-//! said nothing, or is what the person should see.
+//! The script `./draw`, run as a person would, in a scratch repository where everything is proved: `rt`, `cargo` and
+//! the preview are stubs there, the program is the proved one. Most are failures that once looked like success, hung or
+//! said nothing.
 
 use checks::program;
 use std::ffi::OsString;

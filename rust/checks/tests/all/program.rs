@@ -1,4 +1,4 @@
-//! The program against the slow one: on the inputs of every series, on damaged records, on short, closed and full pipes.
+//! The program against the slow one: on the inputs of every series, on damaged records; short, closed and full pipes.
 
 use checks::drawing::{ARITHMETIC, DAMAGED, RANDOM, SHAPES, Series};
 use checks::program::{self, check, compare, damaged_input, flat_input, input};
