@@ -1,8 +1,19 @@
 /*
  * Lezantsiro: the layer core's calls for C.
  *
- * A buffer is a pointer and its length in elements, and stays the caller's: a call keeps no pointer, allocates nothing and
- * uses less than 64 KiB of stack. A pointer is never null, also where the length is 0; buffers of one call must not overlap.
+ * A buffer is a pointer and its length in elements, and stays the caller's: a call keeps no pointer, allocates nothing
+ * and uses less than 64 KiB of stack.
+ *
+ * The calls are proved in a language that knows four things of every buffer of a call. C knows none of them, so the
+ * caller sees to each, also where the length is 0 and where the call is refused; else nothing that is proved holds:
+ *
+ *   - it has the length stated behind a pointer that is not null, and can be written where it is not const;
+ *   - it is aligned: int32_t at a multiple of 4 bytes, uint16_t at a multiple of 2;
+ *   - it overlaps no other buffer of the call;
+ *   - during the call nobody else changes it, or reads it where it is not const: no other thread, no signal handler.
+ *
+ * Calls whose buffers are apart may run at once, in several threads. A call cannot be cancelled, and a small input can
+ * ask for minutes.
  *
  * Every call takes any input. It returns number, place and count. number 0: done; the whole output or picture is written,
  * and the whole work buffer is 0. Any other number is a line of the table of refusals: nothing lent has changed, count is 0,

@@ -1,5 +1,5 @@
 // The program: a grid record and a tape on standard input, the file on standard output and the count on descriptor 2, or the
-// refusal on standard output.
+// refusal on standard output. The count comes last, and only behind a whole picture: who reads it knows that none was cut.
 use program::LINE;
 use program::OUTPUT;
 use program::draw_layer;
@@ -14,6 +14,7 @@ fn main() {
     let said = draw_layer(&input[..size], &mut out, &mut line);
     let first = said.length;
     let second = said.line;
-    io::write_all(1, &out[..first]);
-    io::write_all(2, &line[..second]);
+    if io::write_all(1, &out[..first]) {
+        io::write_all(2, &line[..second]);
+    }
 }

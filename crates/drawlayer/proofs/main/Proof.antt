@@ -8,6 +8,10 @@ use borrow.Author.Needs.{needs}
 use Rattle.drawlayer.proofs.main.Statement.{statement}
 use Rattle.drawlayer.proofs.main.Tie as tie
 
+-- What holds where the count is written holds since the decision.
+abbrev decided : tie.Then1 → tie.After-draw-layer
+decided c = c .before .before .before
+
 first : (c : tie.After-draw-layer) → c .draw-layer .result .length ≤ length (c .draw-layer .last .1 .0)
 first c = first-within (c .draw-layer .ensures)
 
@@ -42,16 +46,19 @@ write-all-requires : tie.Need-write-all-requires
 write-all-requires c κs = search needs
 
 array-share-prefix-line : tie.Need-array-share-prefix-line
-array-share-prefix-line c = second (c .before .before)
+array-share-prefix-line c = second (decided c)
 
 slice-aggregate-write-all-2 : tie.Need-slice-aggregate-write-all-2
-slice-aggregate-write-all-2 c = sym (length-take-le _ _ (second (c .before .before .before)))
+slice-aggregate-write-all-2 c = sym (length-take-le _ _ (second (decided (c .before))))
 
 write-all-requires-2 : tie.Need-write-all-requires-2
 write-all-requires-2 c κs = search needs
 
 returns : tie.Need-returns
 returns c = search needs
+
+returns-2 : tie.Need-returns-2
+returns-2 c = search needs
 
 pub main-spec : {M : Type 1} → statement M
 main-spec =
@@ -69,4 +76,5 @@ main-spec =
     array-share-prefix-line
     slice-aggregate-write-all-2
     write-all-requires-2
-    returns)
+    returns
+    returns-2)

@@ -2,6 +2,7 @@
 //! than most of the tests.
 
 mod differential;
+mod draw;
 mod examples;
 mod faults;
 mod figures;

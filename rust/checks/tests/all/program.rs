@@ -1,10 +1,15 @@
-//! The program against the slow one: on the inputs of every series, on damaged records, on short and closed pipes.
+//! The program against the slow one: on the inputs of every series, on damaged records; short, closed and full pipes.
 
 use checks::drawing::{ARITHMETIC, DAMAGED, RANDOM, SHAPES, Series};
 use checks::program::{self, check, compare, damaged_input, flat_input, input};
 use checks::random::{Random, cases};
 use slow::draw::Grid;
-use std::process::{Child, Command};
+use std::fs::{self, File};
+use std::io::Write;
+use std::os::fd::OwnedFd;
+use std::os::unix::net::UnixStream;
+use std::path::Path;
+use std::process::{Child, Command, Stdio};
 use std::time::Duration;
 
 fn same(input: &[u8]) -> u8 {
@@ -176,4 +181,38 @@ fn descriptors_missing() {
         shell.arg("-c").arg(format!("exec \"$0\" {closed}")).arg(program.get_program());
         feed_and_end(&mut program::start(shell), &ball(40));
     }
+}
+
+/// What the command says on descriptor 2 if its standard output is `out`.
+fn count_said(mut command: Command, out: impl Into<Stdio>, bytes: &[u8]) -> String {
+    let mut child = command.stdin(Stdio::piped()).stdout(out).stderr(Stdio::piped()).spawn().unwrap();
+    child.stdin.take().unwrap().write_all(bytes).unwrap();
+    let ran = child.wait_with_output().unwrap();
+    assert!(ran.status.success());
+    String::from_utf8(ran.stderr).unwrap()
+}
+
+/// The count comes only behind a whole picture: not where a device or a pipe that does not wait takes nothing of it.
+#[test]
+fn no_count_behind_no_picture() {
+    let (mut full, _other_end) = UnixStream::pair().unwrap();
+    full.set_nonblocking(true).unwrap();
+    while full.write(&[0; 4096]).is_ok() {}
+    for bytes in [ball(0), ball(40), ball_on([512, 512, 0])] {
+        assert_ne!(count_said(program::command(), Stdio::null(), &bytes), "");
+        assert_eq!(count_said(program::command(), File::create("/dev/full").unwrap(), &bytes), "");
+        assert_eq!(count_said(program::command(), OwnedFd::from(full.try_clone().unwrap()), &bytes), "");
+    }
+}
+
+/// The same on a disk that has room for a part: here for 8 blocks of a file.
+#[test]
+fn no_count_behind_a_cut_picture() {
+    let mut shell = Command::new("sh");
+    let program = program::command();
+    shell.arg("-c").arg("trap '' XFSZ; ulimit -f 8; exec \"$0\"").arg(program.get_program());
+    let name = Path::new(env!("CARGO_TARGET_TMPDIR")).join("cut.pbm");
+    assert_eq!(count_said(shell, File::create(&name).unwrap(), &ball_on([512, 512, 0])), "");
+    let written = fs::metadata(&name).unwrap().len();
+    assert!(0 < written && written < 512 * 512 / 8, "{written} bytes are written");
 }
