@@ -20,7 +20,7 @@ loop-holds : tie.Need-loop-holds Inv-loop μ-loop
 loop-holds c = (record { fit = c .before .pre; same = refl }, refl)
 
 raise-row-requires : tie.Need-raise-row-requires Inv-loop μ-loop
-raise-row-requires c κs = row-fits (c .before .before .loop .inv .0 .fit) (c .before .loop-test .taken)
+raise-row-requires c κs = omega (arith, row-fits (c .before .before .loop .inv .0 .fit) (c .before .loop-test .taken))
 
 add-at : tie.Need-add-at Inv-loop μ-loop
 add-at c = omega arith
