@@ -1,5 +1,5 @@
-// The figures of the scope paper that are run, by the public calls: tapes, both files, and the limits. What comes back is
-// written, number, place and count.
+// The figures of the scope paper that are run, by the public calls: tapes, both files, and the limits. Number, place
+// and count of each call are written.
 mod files;
 mod given;
 mod limits;

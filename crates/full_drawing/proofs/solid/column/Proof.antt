@@ -13,7 +13,8 @@ use Rattle.picture.specs.Shapes.{gridIn}
 use Rattle.picture.proofs.Grids.{Accepted, accepted}
 use Rattle.picture.proofs.GridWords.{InWords, in-words, at-read}
 use Rattle.full_drawing.specs.Full.{sampleIn, Says}
-use Rattle.full_drawing.proofs.Columns.{Climbed, start-climb, next-found, next-passed, climbed, solid-layers, solid-ok, solid-sample}
+use Rattle.full_drawing.proofs.Columns.{Climbed, start-climb, next-found, next-passed, climbed}
+use Rattle.full_drawing.proofs.Columns.{solid-layers, solid-ok, solid-sample}
 use Rattle.full_drawing.proofs.solid.column.Statement.{statement}
 use Rattle.full_drawing.proofs.solid.column.Tie as tie
 
@@ -115,7 +116,8 @@ loop-again-2 c =
 returns : tie.Need-returns Inv-loop μ-loop
 returns c =
     let l = c .before .before in
-    climbed (l .loop .k) (l .loop .height) (omega (arith, c .if1 .left, solid-layers _ (grid-ok (start l)))) (l .loop .inv)
+    climbed (l .loop .k) (l .loop .height) (omega (arith, c .if1 .left, solid-layers _ (grid-ok (start l))))
+    (l .loop .inv)
 
 pub column-spec : {M : Type 1} → statement M
 column-spec =
