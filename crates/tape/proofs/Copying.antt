@@ -8,17 +8,14 @@ use lib.IntN.{ℤ}
 use lib.ListN.{length, getD, drop}
 use borrow.Author.Tests.{eq-eqb, ne-eqb, eqb-false}
 use Rattle.rules.specs.Values.{pick, firstOf, when}
-use Rattle.rules.specs.Tapes.{Raw, Got, bad, isOpcode, badSlot, badUnused, badConstant, badRead, clauseFault, nat, faultFrom, readClauses, countsOk, rawsOf, readList, word, headOk, rawsFrom, readTape, slotLimit}
+use Rattle.rules.specs.Tapes.{Raw, Got, placeOf, bad, isOpcode, badSlot, badUnused, badConstant, badRead, clauseFault, nat, faultFrom, readClauses, countsOk, rawsOf, readList, word, headOk, rawsFrom, readTape, slotLimit}
 use Rattle.rules.proofs.Reading.{fault-here, fault-after, list-accepted, list-tape, tape-accepted, tape-tape}
 use Rattle.tape.specs.Packing.{copyFault, Copies}
 use Rattle.tape.proofs.Reading.{within}
 
 -- A place is told with refusals 5 to 9 alone.
-abbrev told : ℕ → ℕ → ℕ
-told x p = pick (leb 5 x && leb x 9) p 0
-
 pub record Placed (g : Got) : Type 0 where
-  pub placed : g .place ≡ told (g .number) (g .place)
+  pub placed : g .place ≡ placeOf (g .number) (g .place)
 
 lines-5-to-9 : (a b c d e : Bool) → let x = firstOf (when a 5) (firstOf (when b 6) (firstOf (when c 7) (firstOf (when d 8) (when e 9)))) in
     eqb x 0 ≡ false → (leb 5 x && leb x 9) ≡ true
@@ -36,14 +33,14 @@ clause-5-to-9 n written r h =
     lines-5-to-9 (not (isOpcode (r .opcode))) (badSlot n r) (badUnused r) (badConstant r) (badRead written r) h
 
 fault-placed : (n i : ℕ) (written : List ℕ) (rs : List Raw)
-    → let f = faultFrom n i written rs in f .place ≡ told (f .number) (f .place)
+    → let f = faultFrom n i written rs in f .place ≡ placeOf (f .number) (f .place)
 unfolding faultFrom
 fault-placed n i written [] = refl
 fault-placed n i written (r ∷ rs) = go (eqb (clauseFault n written r) 0) refl (fault-placed n (suc i) (nat (r .out) ∷ written) rs)
   where
     go : (b : Bool) → eqb (clauseFault n written r) 0 ≡ b
-        → (let f = faultFrom n (suc i) (nat (r .out) ∷ written) rs in f .place ≡ told (f .number) (f .place))
-        → let f = faultFrom n i written (r ∷ rs) in f .place ≡ told (f .number) (f .place)
+        → (let f = faultFrom n (suc i) (nat (r .out) ∷ written) rs in f .place ≡ placeOf (f .number) (f .place))
+        → let f = faultFrom n i written (r ∷ rs) in f .place ≡ placeOf (f .number) (f .place)
     go true h later = rw (fault-after n i written r rs h) later
     go false h later = rw (fault-here n i written r rs h, clause-5-to-9 n written r h)
 
@@ -55,7 +52,7 @@ clauses-placed n rs = go (eqb (faultFrom n 0 [] rs .number) 0) refl
     go true h = rw (h, readClauses) (record { placed = refl })
     go false h = rw (h, readClauses) (record { placed = fault-placed n 0 [] rs })
 
-unless : (b : Bool) (x : ℕ) (g : Got) → told x 0 ≡ 0 → Placed g → Placed (pick b (bad x 0) g)
+unless : (b : Bool) (x : ℕ) (g : Got) → placeOf x 0 ≡ 0 → Placed g → Placed (pick b (bad x 0) g)
 unless true x g e p = record { placed = sym e }
 unless false x g e p = p
 
@@ -93,7 +90,7 @@ module _ {A : Type 0} (g : Got) (b o : List A) where
       let n : eqb x 0 ≡ false = ne-eqb x 0 h in
       record {
         number = sym f;
-        place = q ∙ l .placed ∙ ap (λ k. told k (g .place)) (sym e ∙ sym f);
+        place = q ∙ l .placed ∙ ap (λ k. placeOf k (g .place)) (sym e ∙ sym f);
         slots = rw (f, n);
         out = rw (f, n);
       }

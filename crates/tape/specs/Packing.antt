@@ -1,13 +1,13 @@
 -- What packing and unpacking write and answer.
 use mathlib.Core.Path.{_≡_}
-use mathlib.Core.Bool.{true, _&&_, not}
+use mathlib.Core.Bool.{true, not}
 use mathlib.Core.List.{List, [], _∷_, _++_}
 use Prim.Native.Nat.{ℕ, _/_}
-use lib.Dec.{eqb, leb}
+use lib.Dec.{eqb}
 use lib.IntN.{ℤ}
 use lib.ListN.{length}
 use Rattle.rules.specs.Values.{pick, firstOf, when}
-use Rattle.rules.specs.Tapes.{Raw, Got, isSlot, two}
+use Rattle.rules.specs.Tapes.{Raw, Got, placeOf, isSlot, two}
 use Rattle.tape.specs.declared.pack.Packed.{Packed}
 
 -- "Head, 8 bytes: `54 50`, edition 01, slot count, clause count (2 bytes), `00 00`."
@@ -41,6 +41,6 @@ copyFault g b o = firstOf (g .number) (when (not (eqb (length o) (length b))) 14
 -- The answer, where g was read, is written as b and the output o has become o′: all of b, or as it was.
 pub record Copies {A : Type 0} (g : Got) (b o o′ : List A) (r : Packed) : Type 0 where
   pub number : r .number ≡ copyFault g b o
-  pub place : r .place ≡ pick (leb 5 (copyFault g b o) && leb (copyFault g b o) 9) (g .place) 0
+  pub place : r .place ≡ placeOf (copyFault g b o) (g .place)
   pub slots : r .slots ≡ pick (eqb (copyFault g b o) 0) (g .tape .slots) 0
   pub out : o′ ≡ pick (eqb (copyFault g b o) 0) b o
