@@ -15,8 +15,8 @@ use mir.Val.{SFits, toZ}
 use borrow.Author.Tests.{lt-ltb, le-ltb}
 use Rattle.rules.specs.Values.{pick}
 use Rattle.rules.specs.Tapes.{Raw, word, signed4, markOk, rawIn, rawsFrom}
-use Rattle.tape.specs.Checks.{marked}
-use Rattle.tape.proofs.FieldTests.{raw, kept, small, kept-is}
+use Rattle.tape.specs.Clauses.{marked}
+use Rattle.tape.proofs.FieldValues.{raw, kept, small, kept-is}
 
 -- A number below the half, as an operation reads it.
 abbrev pub read : ℕ → ℤ
@@ -123,8 +123,3 @@ module _ (s : List ℕ) (k : ℕ) where
   pub raws-over : (i : ℕ) → k ≤ i → left-from s k i ≡ []
   unfolding rawsFrom
   raws-over i h = let e : k - i ≡ 0 = omega arith in rw e
-
-pub raws-from : (k : ℕ) (s : List ℕ) → k ≡ length (rawsFrom k s)
-unfolding rawsFrom
-raws-from zero s = refl
-raws-from (suc k) s = ap suc (raws-from k (drop 10 s))
