@@ -1,24 +1,24 @@
 -- What packing and unpacking answer: what reading refuses with its place, the wrong length, and what is written.
 use mathlib.Core.Path.{_≡_, refl, sym, ap, _∙_}
-use mathlib.Core.Bool.{Bool, true, false, _&&_, not}
-use mathlib.Core.List.{List, [], _∷_}
-use Prim.Native.Nat.{ℕ, zero, suc, _+_, _*_, _%_, _≤_}
-use lib.Dec.{eqb, ltb, leb}
+use mathlib.Core.Bool.{false}
+use mathlib.Core.List.{List}
+use Prim.Native.Nat.{ℕ, zero, suc, _≤_}
+use lib.Dec.{eqb}
 use lib.IntN.{ℤ}
-use lib.ListN.{length, getD, drop}
-use borrow.Author.Tests.{eq-eqb, ne-eqb, eqb-false}
-use Rattle.rules.specs.Values.{pick, firstOf, when}
-use Rattle.rules.specs.Tapes.{Raw, Got, placeOf, bad, isOpcode, badSlot, badUnused, badConstant, badRead, clauseFault, nat, faultFrom, readClauses, countsOk, rawsOf, readList, word, headOk, rawsFrom, readTape, slotLimit}
-use Rattle.rules.proofs.Reading.{fault-here, fault-after, list-accepted, list-tape, tape-accepted, tape-tape}
-use Rattle.tape.specs.Packing.{copyFault, Copies}
-use Rattle.tape.proofs.Reading.{within}
+use lib.ListN.{length, getD}
+use borrow.Author.Tests.{eq-eqb, ne-eqb}
+use Rattle.rules.specs.Values.{firstOf}
+use Rattle.rules.specs.Tapes.{Got, placeOf, slotLimit, rawsOf, readList, word, readTape}
+use Rattle.rules.proofs.Reading.{counts-hold, list-accepted, list-tape, tape-accepted, tape-tape}
+use Rattle.rules.proofs.Places.{Placed}
+use Rattle.packing.specs.Packing.{copyFault, Copies}
 
 -- The slot count of what was read.
 pub list-slots : (n : ℕ) (zs : List ℤ) → readList n zs .number ≡ 0 → readList n zs .tape .slots ≤ slotLimit
-list-slots n zs e = rw (list-tape n zs e) (within n (length (rawsOf zs)) (list-accepted n zs e .counts) .0)
+list-slots n zs e = rw (list-tape n zs e) (counts-hold n (length (rawsOf zs)) (list-accepted n zs e .counts) .slots)
 
 pub tape-slots : (s : List ℕ) → readTape s .number ≡ 0 → readTape s .tape .slots ≤ slotLimit
-tape-slots s e = rw (tape-tape s e) (within (getD s 3 0) (word 4 s) (tape-accepted s e .counts) .0)
+tape-slots s e = rw (tape-tape s e) (counts-hold (getD s 3 0) (word 4 s) (tape-accepted s e .counts) .slots)
 
 -- The answer in its three cases.
 first-stays : (x y : ℕ) → (x ≡ 0 → ⊥) → firstOf x y ≡ x

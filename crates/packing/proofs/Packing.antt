@@ -1,31 +1,58 @@
 -- The walks that write: a list's clauses as a tape's bytes, a tape's clauses as a list's numbers.
 use mathlib.Core.Path.{_≡_, refl, sym, ap, _∙_}
+use mathlib.Core.Bool.{Bool, true, false, _||_, not}
 use mathlib.Core.List.{List, [], _∷_, _++_, map}
-use Prim.Native.Nat.{ℕ, _+_, _*_, _≤_, _<_}
+use Prim.Native.Nat.{ℕ, zero, suc, _+_, _*_, _≤_, _<_}
 use native.Mathlib.Omega.{arith}
 use native.Mathlib.Numerals.{add-one}
-use lib.IntN.{ℤ}
+use lib.IntN.{ℤ, pos, negsuc}
 use lib.ListN.{length, getD, drop, length-map}
 use lib.Seq.{sets}
+use borrow.Author.Tests.{lt-ltb, leb-true, eqb-true}
 use Rattle.rules.specs.Values.{Clause}
-use Rattle.rules.specs.Tapes.{Tape, Raw, Got, clauseOf, word, rawIn, rawsFrom, rawsOf, readList, readTape, clauseBytes, tapeBytes, listOf, slotLimit, clauseLimit}
-use Rattle.rules.proofs.Reading.{rawOf as given, same-given, length-list, list-accepted, list-faultless, list-tape, tape-accepted, tape-faultless, tape-tape}
+use Rattle.rules.specs.Tapes.{Tape, Raw, Got, slotLimit, clauseLimit, lastOpcode, isSlot, isZero, isOpcode, nat}
+use Rattle.rules.specs.Tapes.{usesLeft, usesRight, clauseOf, word, rawIn, rawsFrom, rawsOf, readList, readTape, headBytes, clauseBytes, tapeBytes, listOf}
+use Rattle.rules.proofs.Reading.{rawOf as given, Passed, passed-tests, same-given, length-list, counts-hold}
+use Rattle.rules.proofs.Reading.{list-accepted, list-faultless, list-tape, tape-accepted, tape-faultless, tape-tape}
 use Rattle.rules.proofs.Bytes.{length-read, length-bytes}
-use Rattle.tape.specs.Packing.{headBytes, InBytes, five, Fills}
+use Rattle.tape.specs.Clauses.{InBytes, five}
+use Rattle.tape.proofs.FieldValues.{wider}
 use Rattle.tape.proofs.ByteClauses.{left-from, raws-first, raws-here, raws-over}
 use Rattle.tape.proofs.ListClauses.{raws-length, raws-next, raws-end}
-use Rattle.tape.proofs.Reading.{within}
-use Rattle.tape.proofs.PackedBytes.{in-bytes}
-use Rattle.tape.proofs.Writing.{Written, start-written, written-to, clause-passed, next-written, all-written}
+use Rattle.packing.specs.Packing.{bytesOf, numbersOf, Fills}
+use Rattle.packing.proofs.Writing.{Written, start-written, written-to, clause-passed, next-written, all-written}
+
+-- A clause without a fault has fields that go into bytes.
+opcode-byte : (z : ℤ) → isOpcode z ≡ true → isSlot 256 z ≡ true
+opcode-byte (pos a) e = lt-ltb a 256 (omega (arith, leb-true a lastOpcode e))
+opcode-byte (negsuc a) e = e
+
+zero-byte : (z : ℤ) → isZero z ≡ true → isSlot 256 z ≡ true
+zero-byte (pos zero) e = refl
+zero-byte (pos (suc a)) e = absurd (omega (arith, eqb-true (suc a) 0 e))
+zero-byte (negsuc a) e = e
+
+side-byte : (n : ℕ) (u : Bool) (z : ℤ) → n ≤ 256 → (not u || isSlot n z) ≡ true → (u || isZero z) ≡ true
+    → isSlot 256 z ≡ true
+side-byte n true z h e f = wider n 256 z h e
+side-byte n false z h e f = zero-byte z f
+
+in-bytes : (n : ℕ) (written : List ℕ) (r : Raw) → n ≤ 256 → Passed n written r → InBytes r
+in-bytes n written r h p =
+    let t = passed-tests n written r p in
+    let o = nat (r .opcode) in
+    record {
+      opcode = opcode-byte (r .opcode) (t .opcode);
+      out = wider n 256 (r .out) h (t .out);
+      left = side-byte n (usesLeft o) (r .left) h (t .left .slot) (t .left .unused);
+      right = side-byte n (usesRight o) (r .right) h (t .right .slot) (t .right .unused);
+    }
 
 pub length-tape : (t : Tape) → length (tapeBytes t) ≡ 8 + 10 * length (t .clauses)
 unfolding tapeBytes
 length-tape t = omega (arith, length-bytes (t .clauses))
 
 -- A list, to a tape's bytes.
-abbrev pub bytesOf : ℕ → List ℤ → List ℕ
-bytesOf n zs = tapeBytes (readList n zs .tape)
-
 pub record ListSizes (n k : ℕ) (zs : List ℤ) (o : List ℕ) : Type 0 where
   pub slots : n ≤ slotLimit
   pub clauses : k ≤ clauseLimit
@@ -40,10 +67,10 @@ module _ (n k : ℕ) (zs : List ℤ) (o : List ℕ) (h : Fills (readList n zs) k
   pub list-sizes : ListSizes n k zs o
   list-sizes =
       let a = list-accepted n zs (h .accepted) in
-      let w = within n (length (rawsOf zs)) (a .counts) in
+      let w = counts-hold n (length (rawsOf zs)) (a .counts) in
       record {
-        slots = w .0;
-        clauses = omega (arith, w .1, counted);
+        slots = w .slots;
+        clauses = omega (arith, w .clauses, counted);
         numbers = omega (arith, a .fives, counted, raws-length zs);
         bytes = omega (arith, h .size, h .clauses, length-tape (readList n zs .tape));
       }
@@ -85,9 +112,6 @@ module _ (b : List ℕ) (n i : ℕ) (zs : List ℤ) (o : List ℕ) (w : Written 
       all-written clauseBytes b n refl (written-to clauseBytes b n {i = i} {a = 8 + 10 * i} refl refl (raws-end zs k h i l) w)
 
 -- A tape, to a list's numbers.
-abbrev pub numbersOf : List ℕ → List ℤ
-numbersOf s = listOf (readTape s .tape .clauses)
-
 pub record TapeSizes (k : ℕ) (s : List ℕ) (o : List ℤ) : Type 0 where
   pub clauses : k ≤ clauseLimit
   pub bytes : length s ≡ 8 + 10 * k
@@ -103,9 +127,9 @@ module _ (k : ℕ) (s : List ℕ) (o : List ℤ) (h : Fills (readTape s) k (numb
   pub tape-sizes : TapeSizes k s o
   tape-sizes =
       let a = tape-accepted s (h .accepted) in
-      let w = within (getD s 3 0) (word 4 s) (a .counts) in
+      let w = counts-hold (getD s 3 0) (word 4 s) (a .counts) in
       record {
-        clauses = omega (arith, w .1, word-count);
+        clauses = omega (arith, w .clauses, word-count);
         bytes = omega (arith, a .exact, word-count);
         numbers = omega (arith, h .size, h .clauses, length-list (readTape s .tape .clauses));
       }

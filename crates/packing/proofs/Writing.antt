@@ -1,4 +1,4 @@
--- What is written into a lent output from the front: runs of stores, and the clauses of an accepted tape one by one.
+-- What is written into a lent output from the front: the clauses of an accepted tape one by one.
 use mathlib.Core.Path.{_≡_, refl, sym, ap, ap₂, _∙_}
 use mathlib.Core.List.{List, [], _∷_, _++_, map}
 use Prim.Native.Nat.{ℕ, suc, _+_, _≤_}
@@ -8,15 +8,6 @@ use lib.Seq.{sets, sets-eq, length-sets, length-take-le, take-all, take-at, take
 use Rattle.rules.specs.Values.{Clause}
 use Rattle.rules.specs.Tapes.{Raw, clauseOf, faultFrom}
 use Rattle.rules.proofs.Reading.{Passed, passed, no-fault}
-
--- A run of stores right after another is one run.
-runs : {A : Type 0} (vs ws l : List A) (i j : ℕ) → j ≡ i + length vs → sets (sets l i vs) j ws ≡ sets l i (vs ++ ws)
-runs [] ws l i j e = let f : j ≡ i = omega arith in ap (λ k. sets l k ws) f
-runs (v ∷ vs) ws l i j e = runs vs ws _ (suc i) j (omega arith)
-
-pub and-then : {A : Type 0} (l m n vs ws : List A) (i j : ℕ) → m ≡ sets l i vs → n ≡ sets m j ws → j ≡ i + length vs
-    → n ≡ sets l i (vs ++ ws)
-and-then l m n vs ws i j p q e = q ∙ ap (λ x. sets x j ws) p ∙ runs vs ws l i j e
 
 -- The first elements of l are those of b, and stay so with the next ones of b stored after them.
 module _ {A : Type 0} (b l vs ws : List A) (a : ℕ) (same : take a l ≡ take a b) (rest : drop a b ≡ vs ++ ws)

@@ -1,32 +1,21 @@
 -- What packing and unpacking write and answer.
 use mathlib.Core.Path.{_≡_}
-use mathlib.Core.Bool.{true, not}
-use mathlib.Core.List.{List, [], _∷_, _++_}
-use Prim.Native.Nat.{ℕ, _/_}
+use mathlib.Core.Bool.{not}
+use mathlib.Core.List.{List}
+use Prim.Native.Nat.{ℕ}
 use lib.Dec.{eqb}
 use lib.IntN.{ℤ}
 use lib.ListN.{length}
 use Rattle.rules.specs.Values.{pick, firstOf, when}
-use Rattle.rules.specs.Tapes.{Raw, Got, placeOf, isSlot, two}
-use Rattle.tape.specs.declared.pack.Packed.{Packed}
+use Rattle.rules.specs.Tapes.{Got, placeOf, readList, readTape, tapeBytes, listOf}
+use Rattle.packing.specs.declared.Packed.{Packed}
 
--- "Head, 8 bytes: `54 50`, edition 01, slot count, clause count (2 bytes), `00 00`."
-abbrev pub headBytes : ℕ → ℕ → List ℕ
-headBytes n k = 84 ∷ (80 ∷ (1 ∷ (n ∷ (two k ++ (0 ∷ (0 ∷ []))))))
+-- A list as a tape's bytes, and a tape's bytes as a list.
+abbrev pub bytesOf : ℕ → List ℤ → List ℕ
+bytesOf n zs = tapeBytes (readList n zs .tape)
 
--- "Clause, 10 bytes: `43 4C`, opcode, out, left, right, constant (4 bytes)", the constant as one number.
-abbrev pub tenOf : ℕ → ℕ → ℕ → ℕ → ℕ → List ℕ
-tenOf o t l r v = 67 ∷ (76 ∷ (o ∷ (t ∷ (l ∷ (r ∷ (two v ++ two (v / 65536)))))))
-
--- A clause as it is given, whose slots and opcode each go into one byte; and its five numbers.
-pub record InBytes (r : Raw) : Type 0 where
-  pub opcode : isSlot 256 (r .opcode) ≡ true
-  pub out : isSlot 256 (r .out) ≡ true
-  pub left : isSlot 256 (r .left) ≡ true
-  pub right : isSlot 256 (r .right) ≡ true
-
-abbrev pub five : Raw → List ℤ
-five r = r .opcode ∷ (r .out ∷ (r .left ∷ (r .right ∷ (r .constant ∷ []))))
+abbrev pub numbersOf : List ℕ → List ℤ
+numbersOf s = listOf (readTape s .tape .clauses)
 
 -- A tape of k clauses was read, and what it is written as, b, has the length of the output.
 pub record Fills {A : Type 0} (g : Got) (k : ℕ) (b o : List A) : Type 0 where
@@ -44,3 +33,9 @@ pub record Copies {A : Type 0} (g : Got) (b o o′ : List A) (r : Packed) : Type
   pub place : r .place ≡ placeOf (copyFault g b o) (g .place)
   pub slots : r .slots ≡ pick (eqb (copyFault g b o) 0) (g .tape .slots) 0
   pub out : o′ ≡ pick (eqb (copyFault g b o) 0) b o
+
+abbrev pub Packs : ℕ → List ℤ → List ℕ → List ℕ → Packed → Type 0
+Packs n zs o o′ r = Copies (readList n zs) (bytesOf n zs) o o′ r
+
+abbrev pub Unpacks : List ℕ → List ℤ → List ℤ → Packed → Type 0
+Unpacks s o o′ r = Copies (readTape s) (numbersOf s) o o′ r
