@@ -1,7 +1,7 @@
 // The figures of the scope paper that concern tapes: for each, the number, the place and the slot count that come back.
-use tape::pack::Packed;
-use tape::pack::pack;
-use tape::pack::unpack;
+use packing::Packed;
+use packing::pack;
+use packing::unpack;
 
 fn print_number(n: u64) {
     io::print_decimal(1, n);
