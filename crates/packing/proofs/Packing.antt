@@ -11,7 +11,8 @@ use lib.Seq.{sets}
 use borrow.Author.Tests.{lt-ltb, leb-true, eqb-true}
 use Rattle.rules.specs.Values.{Clause}
 use Rattle.rules.specs.Tapes.{Tape, Raw, Got, slotLimit, clauseLimit, lastOpcode, isSlot, isZero, isOpcode, nat}
-use Rattle.rules.specs.Tapes.{usesLeft, usesRight, clauseOf, word, rawIn, rawsFrom, rawsOf, readList, readTape, headBytes, clauseBytes, tapeBytes, listOf}
+use Rattle.rules.specs.Tapes.{usesLeft, usesRight, clauseOf, word, rawIn, rawsFrom, rawsOf, readList, readTape}
+use Rattle.rules.specs.Tapes.{headBytes, clauseBytes, tapeBytes, listOf}
 use Rattle.rules.proofs.Reading.{rawOf as given, Passed, passed-tests, same-given, length-list, counts-hold}
 use Rattle.rules.proofs.Reading.{list-accepted, list-faultless, list-tape, tape-accepted, tape-faultless, tape-tape}
 use Rattle.rules.proofs.Bytes.{length-read, length-bytes}
@@ -62,7 +63,8 @@ pub record ListSizes (n k : ℕ) (zs : List ℤ) (o : List ℕ) : Type 0 where
 module _ (n k : ℕ) (zs : List ℤ) (o : List ℕ) (h : Fills (readList n zs) k (bytesOf n zs) o) where
   counted : k ≡ length (rawsOf zs)
   counted =
-      h .clauses ∙ ap (λ (g : Got). length (g .tape .clauses)) (list-tape n zs (h .accepted)) ∙ length-map (rawsOf zs) clauseOf
+      h .clauses ∙ ap (λ (g : Got). length (g .tape .clauses)) (list-tape n zs (h .accepted))
+      ∙ length-map (rawsOf zs) clauseOf
 
   pub list-sizes : ListSizes n k zs o
   list-sizes =
@@ -92,11 +94,13 @@ bytes-cons : (c : Clause) (cs : List Clause) → clauseBytes (c ∷ cs) ≡ clau
 unfolding clauseBytes
 bytes-cons c cs = refl
 
-module _ (b : List ℕ) (n i : ℕ) (zs : List ℤ) (o : List ℕ) (w : Written clauseBytes b n i (8 + 10 * i) (rawsOf (drop (5 * i) zs)) o) where
+module _ (b : List ℕ) (n i : ℕ) (zs : List ℤ) (o : List ℕ)
+    (w : Written clauseBytes b n i (8 + 10 * i) (rawsOf (drop (5 * i) zs)) o) where
   module _ (r : Raw) (e : rawsOf (drop (5 * i) zs) ≡ r ∷ rawsOf (drop (5 * i + 5) zs)) where
     pub clause-bytes : n ≤ slotLimit → InBytes r
     clause-bytes h =
-        in-bytes n _ r (omega arith) (clause-passed clauseBytes b n (written-to clauseBytes b n {i = i} {a = 8 + 10 * i} refl refl e w))
+        in-bytes n _ r (omega arith)
+        (clause-passed clauseBytes b n (written-to clauseBytes b n {i = i} {a = 8 + 10 * i} refl refl e w))
 
     pub bytes-next : (p : List ℕ) → p ≡ sets o (8 + 10 * i) (clauseBytes (clauseOf r ∷ [])) → 8 + 10 * i + 10 ≤ length o
         → Written clauseBytes b n (i + 1) (8 + 10 * (i + 1)) (rawsOf (drop (5 * (i + 1)) zs)) p
@@ -104,12 +108,14 @@ module _ (b : List ℕ) (n i : ℕ) (zs : List ℤ) (o : List ℕ) (w : Written 
     bytes-next p q room =
         let a : 8 + 10 * i + 10 ≡ 8 + 10 * (i + 1) = omega arith in
         written-to clauseBytes b n (sym (add-one i)) a (raws-next zs i)
-        (next-written clauseBytes b n bytes-cons (written-to clauseBytes b n {i = i} {a = 8 + 10 * i} refl refl e w) refl q room)
+        (next-written clauseBytes b n bytes-cons (written-to clauseBytes b n {i = i} {a = 8 + 10 * i} refl refl e w)
+        refl q room)
 
   pub bytes-done : (k : ℕ) → length zs ≡ 5 * k → k ≤ i → o ≡ b
   unfolding clauseBytes
   bytes-done k h l =
-      all-written clauseBytes b n refl (written-to clauseBytes b n {i = i} {a = 8 + 10 * i} refl refl (raws-end zs k h i l) w)
+      all-written clauseBytes b n refl
+      (written-to clauseBytes b n {i = i} {a = 8 + 10 * i} refl refl (raws-end zs k h i l) w)
 
 -- A tape, to a list's numbers.
 pub record TapeSizes (k : ℕ) (s : List ℕ) (o : List ℤ) : Type 0 where
@@ -137,7 +143,8 @@ module _ (k : ℕ) (s : List ℕ) (o : List ℤ) (h : Fills (readTape s) k (numb
   pub numbers-start : Written listOf (numbersOf s) (getD s 3 0) 0 (5 * 0) (left-from s k 0) o
   numbers-start =
       let e = h .accepted in
-      written-to listOf (numbersOf s) (getD s 3 0) refl refl (ap (λ x. rawsFrom x (drop 8 s)) (sym word-count) ∙ raws-first s k)
+      written-to listOf (numbersOf s) (getD s 3 0) refl refl
+      (ap (λ x. rawsFrom x (drop 8 s)) (sym word-count) ∙ raws-first s k)
       (start-written listOf (numbersOf s) (getD s 3 0) (rawsFrom (word 4 s) (drop 8 s)) o o []
       (ap (λ (g : Got). listOf (g .tape .clauses)) (tape-tape s e)) (h .size) refl (tape-faultless s e))
 
@@ -154,12 +161,15 @@ module _ (b : List ℤ) (n i k : ℕ) (s : List ℕ) (o : List ℤ) (w : Written
   pub numbers-next : (r : Raw) → r ≡ rawIn (drop (8 + 10 * i) s) → i < k → (p : List ℤ) → p ≡ sets o (5 * i) (five r)
       → 5 * i + 5 ≤ length o → Written listOf b n (i + 1) (5 * (i + 1)) (left-from s k (i + 1)) p
   numbers-next r e h p q room =
-      let here : left-from s k i ≡ r ∷ left-from s k (i + 1) = raws-here s k i h ∙ ap (λ x. x ∷ left-from s k (i + 1)) (sym e) in
+      let here : left-from s k i ≡ r ∷ left-from s k (i + 1) = raws-here s k i h
+      ∙ ap (λ x. x ∷ left-from s k (i + 1)) (sym e) in
       let v = written-to listOf b n {i = i} {a = 5 * i} refl refl here w in
       let a : 5 * i + 5 ≡ 5 * (i + 1) = omega arith in
       written-to listOf b n (sym (add-one i)) a refl
-      (next-written listOf b n list-cons v (five-given r (clauseOf r) (same-given n (v .written) r (clause-passed listOf b n v))) q room)
+      (next-written listOf b n list-cons v
+      (five-given r (clauseOf r) (same-given n (v .written) r (clause-passed listOf b n v))) q room)
 
   pub numbers-done : k ≤ i → o ≡ b
   unfolding listOf
-  numbers-done l = all-written listOf b n refl (written-to listOf b n {i = i} {a = 5 * i} refl refl (raws-over s k i l) w)
+  numbers-done l =
+      all-written listOf b n refl (written-to listOf b n {i = i} {a = 5 * i} refl refl (raws-over s k i l) w)

@@ -4,7 +4,8 @@ use mathlib.Core.List.{List, [], _∷_, _++_, map}
 use Prim.Native.Nat.{ℕ, suc, _+_, _≤_}
 use native.Mathlib.Omega.{arith}
 use lib.ListN.{length, take, drop, length-append, length-drop}
-use lib.Seq.{sets, sets-eq, length-sets, length-take-le, take-all, take-at, take-add, take-append-seam, drop-append-seam, drop-drop}
+use lib.Seq.{sets, sets-eq, length-sets, length-take-le, take-all, take-at, take-add, take-append-seam}
+use lib.Seq.{drop-append-seam, drop-drop}
 use Rattle.rules.specs.Values.{Clause}
 use Rattle.rules.specs.Tapes.{Raw, clauseOf, faultFrom}
 use Rattle.rules.proofs.Reading.{Passed, passed, no-fault}
@@ -26,14 +27,15 @@ module _ {A : Type 0} (b l vs ws : List A) (a : ℕ) (same : take a l ≡ take a
   more-rest : drop (a + length vs) b ≡ ws
   more-rest = sym (drop-drop (length vs) a b) ∙ ap (drop (length vs)) rest ∙ drop-append-seam vs ws
 
--- Before the i-th clause: the output o, of b's length, has the first a elements of b, the others are those of the clauses that
--- are left, and none of these has a fault.
-pub record Written {A : Type 0} (f : List Clause → List A) (b : List A) (n i a : ℕ) (left : List Raw) (o : List A) : Type 0 where
+-- Before the i-th clause: the output o, of b's length, has the first a elements of b, the others are those of the
+-- clauses that are left, and none of these has a fault.
+pub record Written {A : Type 0} (f : List Clause → List A) (b : List A) (n i a : ℕ) (rs : List Raw) (o : List A)
+    : Type 0 where
   pub size : length o ≡ length b
   pub same : take a o ≡ take a b
-  pub rest : drop a b ≡ f (map clauseOf left)
+  pub rest : drop a b ≡ f (map clauseOf rs)
   pub written : List ℕ
-  pub faultless : faultFrom n i written left .number ≡ 0
+  pub faultless : faultFrom n i written rs .number ≡ 0
 
 -- At the start what stands before the clauses is written.
 pub start-written : {A : Type 0} (f : List Clause → List A) (b : List A) (n : ℕ) (left : List Raw) (o p vs : List A)
@@ -68,8 +70,9 @@ module _ {A : Type 0} (f : List Clause → List A) (b : List A) (n : ℕ) where
   clause-passed {i = i} {r = r} {rs = rs} w =
       passed n (w .written) r (no-fault n i (w .written) r rs (w .faultless) .here)
 
-  pub next-written : ((c : Clause) (cs : List Clause) → f (c ∷ cs) ≡ f (c ∷ []) ++ f cs) → {i a : ℕ} {r : Raw} {rs : List Raw}
-      {o p vs : List A} → Written f b n i a (r ∷ rs) o → vs ≡ f (clauseOf r ∷ []) → p ≡ sets o a vs → a + length vs ≤ length o
+  pub next-written : ((c : Clause) (cs : List Clause) → f (c ∷ cs) ≡ f (c ∷ []) ++ f cs)
+      → {i a : ℕ} {r : Raw} {rs : List Raw} {o p vs : List A} → Written f b n i a (r ∷ rs) o
+      → vs ≡ f (clauseOf r ∷ []) → p ≡ sets o a vs → a + length vs ≤ length o
       → Written f b n (suc i) (a + length vs) rs p
   next-written cons {i} {a} {r} {rs} {o} {p} {vs} w v e room =
       let ws = f (map clauseOf rs) in

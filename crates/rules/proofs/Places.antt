@@ -8,13 +8,16 @@ use lib.IntN.{ℤ}
 use lib.ListN.{length, getD, drop}
 use borrow.Author.Tests.{eqb-false}
 use Rattle.rules.specs.Values.{pick, firstOf, when}
-use Rattle.rules.specs.Tapes.{Raw, Got, placeOf, bad, isOpcode, badSlot, badUnused, badConstant, badRead, clauseFault, nat, faultFrom, readClauses, countsOk, rawsOf, readList, word, headOk, rawsFrom, readTape}
+use Rattle.rules.specs.Tapes.{Raw, Got, placeOf, bad, isOpcode, badSlot, badUnused, badConstant, badRead}
+use Rattle.rules.specs.Tapes.{clauseFault, nat, faultFrom, readClauses, countsOk, rawsOf, readList, word, headOk}
+use Rattle.rules.specs.Tapes.{rawsFrom, readTape}
 use Rattle.rules.proofs.Reading.{fault-here, fault-after}
 
 pub record Placed (g : Got) : Type 0 where
   pub placed : g .place ≡ placeOf (g .number) (g .place)
 
-lines-5-to-9 : (a b c d e : Bool) → let x = firstOf (when a 5) (firstOf (when b 6) (firstOf (when c 7) (firstOf (when d 8) (when e 9)))) in
+lines-5-to-9 : (a b c d e : Bool)
+    → let x = firstOf (when a 5) (firstOf (when b 6) (firstOf (when c 7) (firstOf (when d 8) (when e 9)))) in
     eqb x 0 ≡ false → (leb 5 x && leb x 9) ≡ true
 lines-5-to-9 true b c d e h = refl
 lines-5-to-9 false true c d e h = refl
@@ -33,7 +36,8 @@ fault-placed : (n i : ℕ) (written : List ℕ) (rs : List Raw)
     → let f = faultFrom n i written rs in f .place ≡ placeOf (f .number) (f .place)
 unfolding faultFrom
 fault-placed n i written [] = refl
-fault-placed n i written (r ∷ rs) = go (eqb (clauseFault n written r) 0) refl (fault-placed n (suc i) (nat (r .out) ∷ written) rs)
+fault-placed n i written (r ∷ rs) =
+    go (eqb (clauseFault n written r) 0) refl (fault-placed n (suc i) (nat (r .out) ∷ written) rs)
   where
     go : (b : Bool) → eqb (clauseFault n written r) 0 ≡ b
         → (let f = faultFrom n (suc i) (nat (r .out) ∷ written) rs in f .place ≡ placeOf (f .number) (f .place))
@@ -65,4 +69,5 @@ tape-placed s =
     unless (ltb (length s) 8) 1 _ refl
     (unless (not (headOk s)) 2 _ refl
     (unless (not (countsOk (getD s 3 0) (word 4 s))) 3 _ refl
-    (unless (not (eqb (length s) (8 + 10 * word 4 s))) 4 _ refl (clauses-placed (getD s 3 0) (rawsFrom (word 4 s) (drop 8 s))))))
+    (unless (not (eqb (length s) (8 + 10 * word 4 s))) 4 _ refl
+    (clauses-placed (getD s 3 0) (rawsFrom (word 4 s) (drop 8 s))))))

@@ -96,7 +96,8 @@ module _ (s : List ℕ) (i : ℕ) where
   byte-is : (b k : ℕ) → b ≡ getD s (i + k) 0 → b < 256 → read b ≡ pos (getD (drop i s) k 0)
   byte-is b k e l = read-is b (omega arith) ∙ ap pos (e ∙ sym (byte-on s i k))
 
-  pub raw-is : (o e : ℤ) (b c d : ℕ) → small o → small e → o ≡ rawIn (drop i s) .opcode → (b ≡ getD s (i + 3) 0) × (b < 256)
+  pub raw-is : (o e : ℤ) (b c d : ℕ) → small o → small e → o ≡ rawIn (drop i s) .opcode
+      → (b ≡ getD s (i + 3) 0) × (b < 256)
       → (c ≡ getD s (i + 4) 0) × (c < 256) → (d ≡ getD s (i + 5) 0) × (d < 256) → e ≡ signed4 (i + 6) s
       → raw (kept o) (read b) (read c) (read d) (kept e) ≡ rawIn (drop i s)
   unfolding rawIn
@@ -118,7 +119,8 @@ module _ (s : List ℕ) (k : ℕ) where
       let e : k - i ≡ suc (k - (i + 1)) = omega arith in
       let d : 8 + 10 * i + 10 ≡ 8 + 10 * (i + 1) = omega arith in
       rw e
-      (ap (λ r. rawIn (drop (8 + 10 * i) s) ∷ rawsFrom (k - (i + 1)) r) (drop-drop 10 (8 + 10 * i) s ∙ ap (λ x. drop x s) d))
+      (ap (λ r. rawIn (drop (8 + 10 * i) s) ∷ rawsFrom (k - (i + 1)) r)
+      (drop-drop 10 (8 + 10 * i) s ∙ ap (λ x. drop x s) d))
 
   pub raws-over : (i : ℕ) → k ≤ i → left-from s k i ≡ []
   unfolding rawsFrom

@@ -1,5 +1,5 @@
--- A clause's fields as the code reads them: a signed number that is passed, stored or returned is read back as it was; a
--- slot is cast to the natural number that it is.
+-- A clause's fields as the code reads them: a signed number that is passed, stored or returned is read back as it was;
+-- a slot is cast to the natural number that it is.
 use mathlib.Core.Path.{_≡_, ap}
 use mathlib.Core.Bool.{true}
 use Prim.Native.Nat.{ℕ, _≤_, _<_}
@@ -60,7 +60,8 @@ pub record Kept (f : Fields) : Type 0 where
 
 -- What is told of a clause's fields holds the bound of each.
 pub all-kept : (f : Fields) {A B C D E U : Type 0}
-    → (A × small (f .opcode)) × ((B × small (f .out)) × ((C × small (f .left)) × ((D × small (f .right)) × ((E × small (f .constant)) × U))))
+    → (A × small (f .opcode)) ×
+    ((B × small (f .out)) × ((C × small (f .left)) × ((D × small (f .right)) × ((E × small (f .constant)) × U))))
     → Kept f
 all-kept f t =
     record {

@@ -72,7 +72,8 @@ module _ (zs : List ℤ) (k : ℕ) (h : length zs ≡ 5 * k) where
 -- A clause's five numbers, stored.
 pub five-stored : (l : List ℤ) (i : ℕ) (f : Fields) → Kept f
     → set
-    (set (set (set (set l i (kept (f .opcode))) (i + 1) (kept (f .out))) (i + 2) (kept (f .left))) (i + 3) (kept (f .right)))
+    (set (set (set (set l i (kept (f .opcode))) (i + 1) (kept (f .out))) (i + 2) (kept (f .left))) (i + 3)
+    (kept (f .right)))
     (i + 4)
     (kept (f .constant))
     ≡ sets l i (five (rawOf f))

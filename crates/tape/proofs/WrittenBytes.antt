@@ -103,6 +103,7 @@ clause-stored l o₁ o₂ o₃ o₄ i o t x y f k po pt px py p q r s =
     let et : t ≡ nat (f .out) = pt ∙ ap nat (k .out) in
     let ex : x ≡ nat (f .left) = px ∙ ap nat (k .left) in
     let ey : y ≡ nat (f .right) = py ∙ ap nat (k .right) in
+    let c = clauseOf (rawOf f) in
     let same : 67 ∷ (76 ∷ (o ∷ (t ∷ (x ∷ (y ∷ four z))))) ≡
-    67 ∷ (76 ∷ (nat (f .opcode) ∷ (nat (f .out) ∷ (nat (f .left) ∷ (nat (f .right) ∷ four (f .constant)))))) = cc (k .constant) in
+    67 ∷ (76 ∷ (c .opcode ∷ (c .out ∷ (c .left ∷ (c .right ∷ four (c .constant)))))) = cc (k .constant) in
     four-runs l o₁ o₂ o₃ o₄ i (i + 2) (i + 4) (i + 6) 67 76 o t x y (four z) refl refl refl p q r s ∙ ap (sets l i) same

@@ -16,6 +16,9 @@ rawOf f = record { opcode = f .opcode; out = f .out; left = f .left; right = f .
 abbrev pub marked : ℕ → List ℕ → List ℕ → Bool
 marked i s m = eqb (getD s i 0) (getD m 0 0) && eqb (getD s (i + 1) 0) (getD m 1 0)
 
+abbrev pub markOf : List ℕ → List ℕ
+markOf m = getD m 0 0 ∷ (getD m 1 0 ∷ [])
+
 -- Opcode and slots each go into one byte.
 pub record InBytes (r : Raw) : Type 0 where
   pub opcode : isSlot 256 (r .opcode) ≡ true

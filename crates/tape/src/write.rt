@@ -1,15 +1,14 @@
-// A tape's bytes, written: marks, little-endian numbers, the head, a clause. Each call stores a run of bytes from `at` on
-// and leaves every other byte.
+// A tape's bytes, written: marks, little-endian numbers, the head, a clause. Each call stores a run of bytes from `at`
+// on and leaves every other byte.
 use crate::EDITION;
 use crate::Fields;
 ghost use mathlib.Core.Path.{_≡_};
 ghost use mathlib.Core.Bool.{true};
 ghost use mathlib.Core.List.{[], _∷_};
 ghost use Prim.Native.Nat.{_+_, _≤_, _<_};
-ghost use lib.ListN.{getD};
 ghost use lib.Seq.{sets};
 ghost use Rattle.rules.specs.Tapes.{nat, isSlot, raw4, two, four, headBytes, clauseOf, clauseBytes};
-ghost use Rattle.tape.specs.Clauses.{rawOf, InBytes};
+ghost use Rattle.tape.specs.Clauses.{markOf, rawOf, InBytes};
 
 pub fn put_pair(out: &mut [u8], at: usize, first: u8, second: u8)
     requires { do ⌜ at + 2 ≤ (← ⟦out.len()⟧) ⌝ }
@@ -21,7 +20,7 @@ pub fn put_pair(out: &mut [u8], at: usize, first: u8, second: u8)
 
 pub fn put_mark(out: &mut [u8], at: usize, mark: &[u8; 2])
     requires { do ⌜ at + 2 ≤ (← ⟦out.len()⟧) ⌝ }
-    ensures { λ _. ⌜ now (out .exit) ≡ sets (now (out .entry)) at (getD (now (mark .entry)) 0 0 ∷ (getD (now (mark .entry)) 1 0 ∷ [])) ⌝ }
+    ensures { λ _. ⌜ now (out .exit) ≡ sets (now (out .entry)) at (markOf (now (mark .entry))) ⌝ }
 {
     put_pair(out, at, mark[0], mark[1])
 }

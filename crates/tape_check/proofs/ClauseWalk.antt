@@ -77,7 +77,8 @@ module _ (n : ℕ) (whole : List Raw) where
       pub out-below : natAbs (kept (f .out)) < slotLimit
       out-below = slot-below slotLimit (f .out) (record { sfits = s }) out-slot
 
-      pub next : (v : ℕ) → ((ns : List ℕ) → IsSet w ns → IsSet v (natAbs (kept (f .out)) ∷ ns)) → Walk n (suc i) v rest whole
+      pub next : (v : ℕ) → ((ns : List ℕ) → IsSet w ns → IsSet v (natAbs (kept (f .out)) ∷ ns))
+          → Walk n (suc i) v rest whole
       next v g =
           record {
             written = nat (f .out) ∷ k .written;

@@ -27,10 +27,12 @@ accepted : (c : tie.Else1) → let a = at-start (c .before) .args in readList (a
 accepted c = sym (c .before .check-list .ensures .number) ∙ c .if1 .left
 
 length-is : (c : tie.Else1)
-    → let a = at-start (c .before) .args in length (bytesOf (a .slots) (a .list .now)) ≡ 8 + 10 * c .before .check-list .result .clauses
+    → let a = at-start (c .before) .args in
+    length (bytesOf (a .slots) (a .list .now)) ≡ 8 + 10 * c .before .check-list .result .clauses
 length-is c =
     let a = at-start (c .before) .args in
-    length-tape (readList (a .slots) (a .list .now) .tape) ∙ ap (λ k. 8 + 10 * k) (sym (c .before .check-list .ensures .clauses))
+    length-tape (readList (a .slots) (a .list .now) .tape)
+    ∙ ap (λ k. 8 + 10 * k) (sym (c .before .check-list .ensures .clauses))
 
 fits : (c : tie.Else2)
     → let a = at-start (c .before .before) .args in length (a .out .now) ≡ length (bytesOf (a .slots) (a .list .now))
@@ -40,7 +42,8 @@ returns : tie.Need-returns
 returns c =
     let a = at-start (c .before) .args in
     let v = c .before .check-list .ensures in
-    read-refuses (readList (a .slots) (a .list .now)) (bytesOf (a .slots) (a .list .now)) (a .out .now) (list-placed (a .slots) (a .list .now)) _ _ (c .if1 .taken) (v .number) (v .place)
+    read-refuses (readList (a .slots) (a .list .now)) (bytesOf (a .slots) (a .list .now)) (a .out .now)
+    (list-placed (a .slots) (a .list .now)) _ _ (c .if1 .taken) (v .number) (v .place)
 
 cast-if2 : tie.Need-cast-if2
 cast-if2 c = search needs
@@ -55,7 +58,8 @@ returns-2 : tie.Need-returns-2
 returns-2 c =
     let e = c .before in
     let a = at-start (e .before) .args in
-    length-refuses (readList (a .slots) (a .list .now)) (bytesOf (a .slots) (a .list .now)) (a .out .now) (accepted e) (λ h. omega (arith, h, c .if2 .taken, length-is e))
+    length-refuses (readList (a .slots) (a .list .now)) (bytesOf (a .slots) (a .list .now)) (a .out .now) (accepted e)
+    (λ h. omega (arith, h, c .if2 .taken, length-is e))
 
 write-tape-requires : tie.Need-write-tape-requires
 write-tape-requires c κs =
@@ -77,7 +81,8 @@ returns-3 c =
     let f = sized c in
     let e = f .before in
     let a = at-start (e .before) .args in
-    copied (readList (a .slots) (a .list .now)) (bytesOf (a .slots) (a .list .now)) (a .out .now) (accepted e) (fits f) (w .write-tape .last .1 .1 .1 .0) (w .write-tape .ensures) _ (e .before .check-list .ensures .slots)
+    copied (readList (a .slots) (a .list .now)) (bytesOf (a .slots) (a .list .now)) (a .out .now) (accepted e) (fits f)
+    (w .write-tape .last .1 .1 .1 .0) (w .write-tape .ensures) _ (e .before .check-list .ensures .slots)
 
 pub pack-spec : {M : Type 1} → statement M
 pack-spec =

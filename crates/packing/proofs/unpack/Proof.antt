@@ -27,10 +27,12 @@ accepted : (c : tie.Else1) → let a = at-start (c .before) .args in readTape (a
 accepted c = sym (c .before .check-tape .ensures .number) ∙ c .if1 .left
 
 length-is : (c : tie.Else1)
-    → let a = at-start (c .before) .args in length (numbersOf (a .tape .now)) ≡ 5 * c .before .check-tape .result .clauses
+    → let a = at-start (c .before) .args in
+    length (numbersOf (a .tape .now)) ≡ 5 * c .before .check-tape .result .clauses
 length-is c =
     let a = at-start (c .before) .args in
-    length-list (readTape (a .tape .now) .tape .clauses) ∙ ap (λ k. 5 * k) (sym (c .before .check-tape .ensures .clauses))
+    length-list (readTape (a .tape .now) .tape .clauses)
+    ∙ ap (λ k. 5 * k) (sym (c .before .check-tape .ensures .clauses))
 
 fits : (c : tie.Else2)
     → let a = at-start (c .before .before) .args in length (a .out .now) ≡ length (numbersOf (a .tape .now))
@@ -40,7 +42,8 @@ returns : tie.Need-returns
 returns c =
     let a = at-start (c .before) .args in
     let v = c .before .check-tape .ensures in
-    read-refuses (readTape (a .tape .now)) (numbersOf (a .tape .now)) (a .out .now) (tape-placed (a .tape .now)) _ _ (c .if1 .taken) (v .number) (v .place)
+    read-refuses (readTape (a .tape .now)) (numbersOf (a .tape .now)) (a .out .now) (tape-placed (a .tape .now)) _ _
+    (c .if1 .taken) (v .number) (v .place)
 
 cast-if2 : tie.Need-cast-if2
 cast-if2 c = search needs
@@ -52,7 +55,8 @@ returns-2 : tie.Need-returns-2
 returns-2 c =
     let e = c .before in
     let a = at-start (e .before) .args in
-    length-refuses (readTape (a .tape .now)) (numbersOf (a .tape .now)) (a .out .now) (accepted e) (λ h. omega (arith, h, c .if2 .taken, length-is e))
+    length-refuses (readTape (a .tape .now)) (numbersOf (a .tape .now)) (a .out .now) (accepted e)
+    (λ h. omega (arith, h, c .if2 .taken, length-is e))
 
 write-list-requires : tie.Need-write-list-requires
 write-list-requires c κs =
@@ -74,7 +78,8 @@ returns-3 c =
     let f = sized c in
     let e = f .before in
     let a = at-start (e .before) .args in
-    copied (readTape (a .tape .now)) (numbersOf (a .tape .now)) (a .out .now) (accepted e) (fits f) (w .write-list .last .1 .1 .0) (w .write-list .ensures) _ (e .before .check-tape .ensures .slots)
+    copied (readTape (a .tape .now)) (numbersOf (a .tape .now)) (a .out .now) (accepted e) (fits f)
+    (w .write-list .last .1 .1 .0) (w .write-list .ensures) _ (e .before .check-tape .ensures .slots)
 
 pub unpack-spec : {M : Type 1} → statement M
 unpack-spec =

@@ -41,7 +41,8 @@ loop-holds c =
 -- What a turn has: the clause's index is below the count, and the output has room for it.
 module _ (c : tie.In-loop Inv-loop μ-loop) where
   here-sizes : let a = at-start (c .before) .args in TapeSizes (a .count) (a .tape .now) (a .out .now)
-  here-sizes = let s = at-start (c .before) in tape-sizes (s .args .count) (s .args .tape .now) (s .args .out .now) (s .pre)
+  here-sizes =
+      let s = at-start (c .before) in tape-sizes (s .args .count) (s .args .tape .now) (s .args .out .now) (s .pre)
 
   room : 5 * c .before .loop .i + 5 ≤ length (c .before .loop .out)
   room =
@@ -97,7 +98,8 @@ returns c =
     let l = c .before in
     let a = at-start l .args in
     let s = a .tape .now in
-    numbers-done (numbersOf s) (getD s 3 0) (l .loop .i) (a .count) s (l .loop .out) (l .loop .inv .1) (c .loop-test .left)
+    numbers-done (numbersOf s) (getD s 3 0) (l .loop .i) (a .count) s (l .loop .out) (l .loop .inv .1)
+    (c .loop-test .left)
 
 pub write-list-spec : {M : Type 1} → statement M
 write-list-spec =

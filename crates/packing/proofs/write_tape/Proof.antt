@@ -49,7 +49,8 @@ loop-holds c =
     let s = h .before .before .before in
     let a = s .args in (
       search needs,
-      bytes-start (a .slots) (a .count) (a .list .now) (a .out .now) (s .pre) (h .put-head .last .0) (h .put-head .ensures),
+      bytes-start (a .slots) (a .count) (a .list .now) (a .out .now) (s .pre) (h .put-head .last .0)
+          (h .put-head .ensures),
     )
 
 -- What a turn has: the clause's index is below the count, and the output has room for it.
@@ -87,7 +88,8 @@ put-clause-requires c κs =
     let l = d .before in
     let a = at-start l .args in (
       room d,
-      clause-bytes (bytesOf (a .slots) (a .list .now)) (a .slots) (l .loop .i) (a .list .now) (l .loop .out) (l .loop .inv .1)
+      clause-bytes (bytesOf (a .slots) (a .list .now)) (a .slots) (l .loop .i) (a .list .now) (l .loop .out)
+          (l .loop .inv .1)
           (rawOf (r .fields-of .result)) (r .fields-of .ensures) (here-sizes d .slots),
     )
 
@@ -105,8 +107,10 @@ loop-again c =
     let l = d .before in
     let a = at-start l .args in (
       omega (arith, d .loop-test .taken),
-      bytes-next (bytesOf (a .slots) (a .list .now)) (a .slots) (l .loop .i) (a .list .now) (l .loop .out) (l .loop .inv .1)
-          (rawOf (r .fields-of .result)) (r .fields-of .ensures) (p .put-clause .last .0) (p .put-clause .ensures) (room d),
+      bytes-next (bytesOf (a .slots) (a .list .now)) (a .slots) (l .loop .i) (a .list .now) (l .loop .out)
+          (l .loop .inv .1)
+          (rawOf (r .fields-of .result)) (r .fields-of .ensures) (p .put-clause .last .0) (p .put-clause .ensures)
+          (room d),
     )
 
 same-length : tie.Need-same-length Inv-loop μ-loop
@@ -116,7 +120,8 @@ returns : tie.Need-returns Inv-loop μ-loop
 returns c =
     let l = c .before in
     let a = at-start l .args in
-    bytes-done (bytesOf (a .slots) (a .list .now)) (a .slots) (l .loop .i) (a .list .now) (l .loop .out) (l .loop .inv .1)
+    bytes-done (bytesOf (a .slots) (a .list .now)) (a .slots) (l .loop .i) (a .list .now) (l .loop .out)
+    (l .loop .inv .1)
     (a .count) (sizes (at-start l) .numbers) (c .loop-test .left)
 
 pub write-tape-spec : {M : Type 1} → statement M

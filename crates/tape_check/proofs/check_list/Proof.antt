@@ -27,7 +27,8 @@ refused-requires-2 c κs = search needs
 returns-2 : tie.Need-returns-2
 returns-2 c =
     let d = c .before .before in
-    list-3 _ _ _ (d .before .if1 .left) (sym (d .counts-ok .ensures) ∙ not-true _ (c .before .if2 .taken)) (c .refused2 .ensures)
+    list-3 _ _ _ (d .before .if1 .left) (sym (d .counts-ok .ensures) ∙ not-true _ (c .before .if2 .taken))
+    (c .refused2 .ensures)
 
 -- Where the counts have passed: the length was tested before.
 abbrev length-tested : tie.Else2 → tie.Else1

@@ -24,7 +24,8 @@ refused-requires-2 c κs = search needs
 returns-2 : tie.Need-returns-2
 returns-2 c =
     let d = c .before .before in
-    tape-2 _ _ (d .before .if1 .left) (sym (d .head-ok .ensures) ∙ not-true _ (c .before .if2 .taken)) (c .refused2 .ensures)
+    tape-2 _ _ (d .before .if1 .left) (sym (d .head-ok .ensures) ∙ not-true _ (c .before .if2 .taken))
+    (c .refused2 .ensures)
 
 -- Where the counts are tested: they were read before, and the head and the length were tested before that.
 abbrev count-read : tie.After-counts-ok → tie.After-word-at
@@ -60,7 +61,8 @@ refused-requires-3 c κs = search needs
 returns-3 : tie.Need-returns-3
 returns-3 c =
     let d = c .before .before in
-    tape-3 _ _ (length-tested d .if1 .left) (headed d) _ _ (slots-read d .byte-at .ensures .0) (count-read d .word-at .ensures .0)
+    tape-3 _ _ (length-tested d .if1 .left) (headed d) _ _ (slots-read d .byte-at .ensures .0)
+    (count-read d .word-at .ensures .0)
     (sym (d .counts-ok .ensures) ∙ not-true _ (c .before .if3 .taken)) (c .refused3 .ensures)
 
 counted : (c : tie.Else3)
@@ -83,7 +85,8 @@ returns-4 : tie.Need-returns-4
 returns-4 c =
     let e = c .before .before in
     let d = e .before in
-    tape-4 _ _ (length-tested d .if1 .left) (headed d) _ _ (slots-read d .byte-at .ensures .0) (count-read d .word-at .ensures .0)
+    tape-4 _ _ (length-tested d .if1 .left) (headed d) _ _ (slots-read d .byte-at .ensures .0)
+    (count-read d .word-at .ensures .0)
     (counted e) (c .before .if4 .taken) (c .refused4 .ensures)
 
 tape-clauses-requires : tie.Need-tape-clauses-requires
@@ -95,7 +98,8 @@ returns-5 : tie.Need-returns-5
 returns-5 c =
     let e = c .before .before in
     let d = e .before in
-    tape-on _ _ (length-tested d .if1 .left) (headed d) _ _ (slots-read d .byte-at .ensures .0) (count-read d .word-at .ensures .0)
+    tape-on _ _ (length-tested d .if1 .left) (headed d) _ _ (slots-read d .byte-at .ensures .0)
+    (count-read d .word-at .ensures .0)
     (counted e) (c .before .if4 .left) (c .tape-clauses .ensures)
 
 pub check-tape-spec : {M : Type 1} → statement M

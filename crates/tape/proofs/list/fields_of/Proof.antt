@@ -49,7 +49,8 @@ shared-slice-copy-out-t21 c = search needs
 returns : tie.Need-returns
 returns c =
     let a = c .before .before .before .before .before in
-    raw-at (a .args .list .now) (a .args .at) (a .pre) (c .before .before .before .before .t5 .given) (c .before .before .before .t9 .given)
+    raw-at (a .args .list .now) (a .args .at) (a .pre) (c .before .before .before .before .t5 .given)
+    (c .before .before .before .t9 .given)
     (c .before .before .t13 .given) (c .before .t17 .given) (c .t21 .given)
 
 pub fields-of-spec : {M : Type 1} → statement M

@@ -2,7 +2,8 @@
 use mathlib.Core.Path.{ap}
 use native.Mathlib.Omega.{arith}
 use lib.IntN.{natAbs}
-use Rattle.tape.proofs.WrittenBytes.{negative, raised-fits, raised-cast, raised-small, negative-bits, natural, natural-cast}
+use Rattle.tape.proofs.WrittenBytes.{negative, raised-fits, raised-cast, raised-small, negative-bits, natural}
+use Rattle.tape.proofs.WrittenBytes.{natural-cast}
 use Rattle.tape.proofs.write.bits_of.Statement.{statement}
 use Rattle.tape.proofs.write.bits_of.Tie as tie
 

@@ -75,7 +75,8 @@ returns c =
     clause-stored (a .out .now) (at-mark q .put-mark .last .0) (at-opcode q .put-pair .last .0) (q .put-pair2 .last .0)
     (last .put-constant .last .0) (a .at) _ _ _ _ (a .f) (all-kept (a .f) (fields-told q .struct-told .given))
     (opcode-cast q .byte-of .ensures) (out-cast q .byte-of2 .ensures) (left-cast q .byte-of3 .ensures)
-    (right-cast q .byte-of4 .ensures) (at-mark q .put-mark .ensures) (at-opcode q .put-pair .ensures) (q .put-pair2 .ensures)
+    (right-cast q .byte-of4 .ensures) (at-mark q .put-mark .ensures) (at-opcode q .put-pair .ensures)
+    (q .put-pair2 .ensures)
     (last .put-constant .ensures)
 
 pub put-clause-spec : {M : Type 1} → statement M

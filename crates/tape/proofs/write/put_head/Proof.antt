@@ -44,8 +44,10 @@ at-start c = at-mark c .before .before .before .before
 returns : tie.Need-returns
 returns c =
     let a = at-start c .args in
-    four-runs (a .out .now) (at-mark c .put-mark .last .0) (at-slots c .put-pair .last .0) (at-count c .put-word .last .0)
-    (at-spare c .put-pair2 .last .0) 0 2 4 6 84 80 1 (a .slots) (a .count % 256) (a .count / 256 % 256) (0 ∷ (0 ∷ [])) refl refl
+    four-runs (a .out .now) (at-mark c .put-mark .last .0) (at-slots c .put-pair .last .0)
+    (at-count c .put-word .last .0)
+    (at-spare c .put-pair2 .last .0) 0 2 4 6 84 80 1 (a .slots) (a .count % 256) (a .count / 256 % 256) (0 ∷ (0 ∷ []))
+    refl refl
     refl (at-mark c .put-mark .ensures) (at-slots c .put-pair .ensures) (at-count c .put-word .ensures)
     (at-spare c .put-pair2 .ensures)
 

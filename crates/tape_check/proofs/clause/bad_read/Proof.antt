@@ -32,7 +32,8 @@ unwritten-requires-2 : tie.Need-unwritten-requires-2
 unwritten-requires-2 c κs =
     let u = c .before in
     let s = fields-told u .before in
-    right-slot (s .args .f) (all-kept (s .args .f) (fields-told u .struct-told .given)) (s .args .slots) _ (s .pre .0) (s .pre .1)
+    right-slot (s .args .f) (all-kept (s .args .f) (fields-told u .struct-told .given)) (s .args .slots) _ (s .pre .0)
+    (s .pre .1)
     (u .uses-right .ensures)
 
 returns : tie.Need-returns

@@ -39,8 +39,10 @@ fields-told c = out-tested c .before
 returns : tie.Need-returns
 returns c =
     let a = fields-told c .before .args in
-    slot-line (a .f) (all-kept (a .f) (fields-told c .struct-told .given)) (a .slots) _ _ _ _ _ (out-tested c .is-slot .ensures)
-    (uses-left c .uses-left .ensures) (left-tested c .is-slot2 .ensures) (uses-right c .uses-right .ensures) (c .is-slot3 .ensures)
+    slot-line (a .f) (all-kept (a .f) (fields-told c .struct-told .given)) (a .slots) _ _ _ _ _
+    (out-tested c .is-slot .ensures)
+    (uses-left c .uses-left .ensures) (left-tested c .is-slot2 .ensures) (uses-right c .uses-right .ensures)
+    (c .is-slot3 .ensures)
 
 pub bad-slot-spec : {M : Type 1} → statement M
 bad-slot-spec =

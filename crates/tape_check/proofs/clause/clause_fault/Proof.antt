@@ -45,7 +45,8 @@ bad-slot-requires c κs = search needs
 
 returns-2 : tie.Need-returns-2
 returns-2 c =
-    λ ns i. let e = c .before .before in fault-6 _ ns _ (opcode-holds e) (sym (c .before .bad-slot .ensures) ∙ c .if2 .taken)
+    λ ns i.
+    let e = c .before .before in fault-6 _ ns _ (opcode-holds e) (sym (c .before .bad-slot .ensures) ∙ c .if2 .taken)
 
 slots-hold : (c : tie.Else2)
     → let a = at-start (opcode-passed c .before) .args in badSlot (a .slots) (rawOf (a .f)) ≡ false
@@ -58,7 +59,8 @@ returns-3 : tie.Need-returns-3
 returns-3 c =
     λ ns i.
     let e = c .before .before in
-    fault-7 _ ns _ (opcode-holds (opcode-passed e)) (slots-hold e) (sym (c .before .bad-unused .ensures) ∙ c .if3 .taken)
+    fault-7 _ ns _ (opcode-holds (opcode-passed e)) (slots-hold e)
+    (sym (c .before .bad-unused .ensures) ∙ c .if3 .taken)
 
 unused-hold : (c : tie.Else3)
     → badUnused (rawOf (at-start (opcode-passed (slots-passed c) .before) .args .f)) ≡ false
