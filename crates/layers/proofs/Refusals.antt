@@ -11,7 +11,7 @@ use Rattle.rules.specs.Values.{pick, firstOf, when}
 use Rattle.rules.specs.Tapes.{readTape}
 use Rattle.rules.specs.Drawings as D
 use Rattle.rules.specs.Pictures.{stride, pictureSize}
-use Rattle.tape.proofs.Copying.{tape-placed}
+use Rattle.rules.proofs.Places.{tape-placed}
 use Rattle.layers.specs.declared.refusal.Refusal.{Refusal}
 use Rattle.layers.specs.Says.{drawFault, Refused}
 use Rattle.layers.proofs.Answers.{no-figure}

@@ -5,10 +5,10 @@ mod solid;
 
 pub use flat::draw_flat;
 pub use flat::tile_flat;
+use packing::pack;
+use packing::unpack;
 pub use solid::draw_solid;
 pub use solid::tile_solid;
-use tape::pack::pack;
-use tape::pack::unpack;
 ghost use Rattle.layers.specs.Says.{PackSays, UnpackSays, BitmapSays, HeightsSay};
 
 // The least length of a work buffer.

@@ -3,7 +3,7 @@ use code::unpack::unpack_words;
 use picture::bits::stride;
 use picture::grid::Grid;
 use picture::grid::grid_fault;
-use tape::check::check_tape;
+use tape_check::check_tape;
 ghost use mathlib.Core.Path.{_≡_};
 ghost use Prim.Native.Nat.{_≤_};
 ghost use Rattle.rules.specs.Drawings.{sizeLimit};

@@ -10,8 +10,8 @@ use borrow.Author.Tests.{lt-ltb, le-ltb, le-leb, lt-leb}
 use Rattle.rules.specs.Tapes.{word, signed4}
 use Rattle.rules.specs.Drawings as D
 use Rattle.rules.specs.Program.{recordLength, recordOk, gridRecord, solidLimit, tooLarge}
-use Rattle.tape.specs.Checks.{marked}
-use Rattle.tape.proofs.FieldTests.{kept, small, kept-is}
+use Rattle.tape.specs.Clauses.{marked}
+use Rattle.tape.proofs.FieldValues.{kept, small, kept-is}
 use Rattle.picture.specs.Shapes.{gridIn}
 use Rattle.picture.specs.declared.grid.Grid.{Grid}
 

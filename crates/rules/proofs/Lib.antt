@@ -8,6 +8,7 @@ pub mod Monotone
 pub mod Arithmetic
 pub mod EndValues
 pub mod Reading
+pub mod Places
 pub mod Accepted
 pub mod Runs
 pub mod Needed

@@ -5,7 +5,7 @@ use Prim.Native.Nat.{ℕ, suc, _+_, _*_}
 use lib.Dec.{eqb, ltb, leb}
 use lib.ListN.{length, getD, drop}
 use Rattle.rules.specs.Values.{pick, firstOf, when}
-use Rattle.rules.specs.Tapes.{clauseLimit, readTape, word, signed4}
+use Rattle.rules.specs.Tapes.{clauseLimit, placeOf, readTape, word, signed4}
 use Rattle.rules.specs.Drawings.{Grid, solid, gridFault, walked}
 use Rattle.rules.specs.Pictures.{digitsFrom, picture, bitmapFile, heightFile}
 
@@ -57,7 +57,7 @@ programFault s =
     (firstOf (when (tooLarge g) 16) (firstOf (readTape (tapeAfter s) .number) (gridFault (solid g) g)))
 
 unfoldable pub programPlace : List ℕ → ℕ
-programPlace s = pick (leb 5 (programFault s) && leb (programFault s) 9) (readTape (tapeAfter s) .place) 0
+programPlace s = placeOf (programFault s) (readTape (tapeAfter s) .place)
 
 -- "The picture goes to standard output": the file of a grid's heights.
 unfoldable pub fileOf : Grid → List ℕ → List ℕ

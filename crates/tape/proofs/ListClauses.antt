@@ -1,14 +1,16 @@
--- The clauses of a list: the one at a place and those after it; their number.
+-- The clauses of a list: the one at a place and those after it; their number; one stored.
 use mathlib.Core.Path.{_≡_, refl, ap, _∙_}
 use mathlib.Core.List.{List, [], _∷_}
-use Prim.Native.Nat.{ℕ, _+_, _*_, _/_, _≤_}
+use Prim.Native.Nat.{ℕ, suc, _+_, _*_, _/_, _≤_}
 use native.Mathlib.Nat.{add-zero}
 use native.Mathlib.Omega.{arith}
 use lib.IntN.{ℤ, pos}
-use lib.ListN.{length, getD, drop, length-drop, drop-of-length-le}
-use lib.Seq.{getD-drop, drop-drop}
+use lib.ListN.{length, getD, drop, set, length-drop, drop-of-length-le}
+use lib.Seq.{sets, getD-drop, drop-drop}
 use Rattle.rules.specs.Tapes.{rawsOf}
-use Rattle.tape.proofs.FieldTests.{raw, kept, small, kept-is}
+use Rattle.tape.specs.declared.Fields.{Fields}
+use Rattle.tape.specs.Clauses.{rawOf, five}
+use Rattle.tape.proofs.FieldValues.{Kept, raw, kept, small, kept-is}
 
 abbrev at : List ℤ → ℕ → ℤ
 at zs i = getD zs i (pos 0)
@@ -66,3 +68,18 @@ module _ (zs : List ℤ) (k : ℕ) (h : length zs ≡ 5 * k) where
 
   pub raws-count : k ≡ length (rawsOf zs)
   raws-count = omega (arith, raws-length zs)
+
+-- A clause's five numbers, stored.
+pub five-stored : (l : List ℤ) (i : ℕ) (f : Fields) → Kept f
+    → set
+    (set (set (set (set l i (kept (f .opcode))) (i + 1) (kept (f .out))) (i + 2) (kept (f .left))) (i + 3)
+    (kept (f .right)))
+    (i + 4)
+    (kept (f .constant))
+    ≡ sets l i (five (rawOf f))
+five-stored l i f k =
+    let p : i + 1 ≡ suc i = omega arith in
+    let q : i + 2 ≡ suc (suc i) = omega arith in
+    let r : i + 3 ≡ suc (suc (suc i)) = omega arith in
+    let s : i + 4 ≡ suc (suc (suc (suc i))) = omega arith in
+    cc (k .opcode, k .out, k .left, k .right, k .constant)

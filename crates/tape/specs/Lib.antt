@@ -1,4 +1,2 @@
--- What the contracts of this crate cite besides the rules.
-pub mod Checks
-pub mod Packing
-pub mod SlotSets
+-- What the contracts of this crate, and of those above it, cite besides the rules.
+pub mod Clauses

@@ -1,10 +1,10 @@
-// The bytes of a lent tape: little-endian numbers, marks, and the clause at a place.
+// A tape's bytes, read: little-endian numbers, marks, and the clause at a place.
+use crate::Fields;
 ghost use mathlib.Core.Path.{_≡_};
 ghost use Prim.Native.Nat.{_+_, _≤_, _<_};
 ghost use lib.ListN.{getD, drop};
 ghost use Rattle.rules.specs.Tapes.{word, signed4, rawIn};
-ghost use Rattle.tape.specs.Checks.{rawOf, marked};
-use crate::clause::Fields;
+ghost use Rattle.tape.specs.Clauses.{rawOf, marked};
 
 pub fn byte_at(s: &[u8], at: usize) -> u32
     requires { do ⌜ at < (← ⟦s.len()⟧) ⌝ }

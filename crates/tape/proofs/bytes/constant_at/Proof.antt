@@ -25,7 +25,8 @@ cast-result c = search needs
 returns : tie.Need-returns
 returns c =
     let s = c .before .before .before .before in
-    constant-low (s .args .s .now) (s .args .at) _ _ (c .before .before .word-at .ensures .0) (c .before .word-at2 .ensures .0) (c .if1 .taken)
+    constant-low (s .args .s .now) (s .args .at) _ _ (c .before .before .word-at .ensures .0)
+    (c .before .word-at2 .ensures .0) (c .if1 .taken)
 
 sub-result : tie.Need-sub-result
 sub-result c = search needs
@@ -39,7 +40,8 @@ sub-result-2 c = past-fits _ (c .if1 .left)
 returns-2 : tie.Need-returns-2
 returns-2 c =
     let s = c .before .before .before .before in
-    constant-high (s .args .s .now) (s .args .at) _ _ (c .before .before .word-at .ensures .0) (c .before .word-at2 .ensures .0) (c .if1 .left)
+    constant-high (s .args .s .now) (s .args .at) _ _ (c .before .before .word-at .ensures .0)
+    (c .before .word-at2 .ensures .0) (c .if1 .left)
 
 pub constant-at-spec : {M : Type 1} → statement M
 constant-at-spec =

@@ -43,7 +43,8 @@ constant-at-requires c κs = search needs
 returns : tie.Need-returns
 returns c =
     let o = c .before .before .before .before in
-    raw-is (o .before .before .args .s .now) (o .before .before .args .at) _ _ _ _ _ (o .opcode-at .ok) (c .constant-at .ok)
+    raw-is (o .before .before .args .s .now) (o .before .before .args .at) _ _ _ _ _ (o .opcode-at .ok)
+    (c .constant-at .ok)
     (o .opcode-at .ensures) (c .before .before .before .byte-at .ensures) (c .before .before .byte-at2 .ensures)
     (c .before .byte-at3 .ensures) (c .constant-at .ensures)
 

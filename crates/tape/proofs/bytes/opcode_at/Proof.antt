@@ -20,7 +20,8 @@ cast-result c = search needs
 returns : tie.Need-returns
 returns c =
     let s = c .before .before .before .before .before in
-    opcode-marked (s .args .s .now) (s .args .at) _ (sym (c .before .before .has-mark .ensures) ∙ c .before .if1 .taken) (c .byte-at .ensures .0) (c .byte-at .ensures .1)
+    opcode-marked (s .args .s .now) (s .args .at) _ (sym (c .before .before .has-mark .ensures) ∙ c .before .if1 .taken)
+    (c .byte-at .ensures .0) (c .byte-at .ensures .1)
 
 returns-2 : tie.Need-returns-2
 returns-2 c =

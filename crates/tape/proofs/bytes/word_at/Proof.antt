@@ -23,7 +23,8 @@ add-result c = search needs
 returns : tie.Need-returns
 returns c =
     let s = c .before .before .before in (
-      word-is (s .args .s .now) (s .args .at) (c .before .byte-at .result) (c .byte-at2 .result) (c .before .byte-at .ensures .0) (c .byte-at2 .ensures .0),
+      word-is (s .args .s .now) (s .args .at) (c .before .byte-at .result) (c .byte-at2 .result)
+          (c .before .byte-at .ensures .0) (c .byte-at2 .ensures .0),
       omega arith,
     )
 

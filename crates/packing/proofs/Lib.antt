@@ -1,0 +1,4 @@
+-- Laws that the proofs of this crate cite.
+pub mod Copying
+pub mod Packing
+pub mod Writing

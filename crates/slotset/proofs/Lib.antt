@@ -1,0 +1,2 @@
+-- What each function does to the set.
+pub mod SlotBits
