@@ -1,6 +1,8 @@
 -- The rows of a cell.
+use mathlib.Core.Bool.{true}
 use native.Mathlib.Omega.{arith}
-use Rattle.solid_tiles.proofs.CellLaws.{small, cell-index, cell-rows, cell-fills}
+use Rattle.walk.proofs.CellLaws.{small}
+use Rattle.solid_tiles.proofs.CellRows.{cell-index, cell-rows, cell-fills}
 use borrow.Author.Needs.{needs}
 use Rattle.solid_tiles.proofs.cell.fill.Statement.{statement}
 use Rattle.solid_tiles.proofs.cell.fill.Tie as tie
@@ -32,7 +34,7 @@ cast-raise-rows c = search needs
 cast-raise-rows-2 : tie.Need-cast-raise-rows-2
 cast-raise-rows-2 c =
     let s = c .before .before .before .before .before .before .before .before .before in
-    let d = small _ (s .pre .0 .fault) in
+    let d = small true _ (s .pre .0 .fault) in
     let z = s .pre .1 .zs in
     omega arith
 

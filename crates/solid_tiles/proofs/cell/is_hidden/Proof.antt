@@ -1,6 +1,8 @@
 -- The rows of a cell.
+use mathlib.Core.Bool.{true}
 use native.Mathlib.Omega.{arith}
-use Rattle.solid_tiles.proofs.CellLaws.{small, cell-index, cell-rows, cell-hidden}
+use Rattle.walk.proofs.CellLaws.{small}
+use Rattle.solid_tiles.proofs.CellRows.{cell-index, cell-rows, cell-hidden}
 use borrow.Author.Needs.{needs}
 use Rattle.solid_tiles.proofs.cell.is_hidden.Statement.{statement}
 use Rattle.solid_tiles.proofs.cell.is_hidden.Tie as tie
@@ -29,7 +31,7 @@ cast-wide c = search needs
 cast-top : tie.Need-cast-top
 cast-top c =
     let s = c .before .before .before .before .before .before .before in
-    let d = small _ (s .pre .0 .fault) in
+    let d = small true _ (s .pre .0 .fault) in
     let z = s .pre .1 .zs in
     omega arith
 
