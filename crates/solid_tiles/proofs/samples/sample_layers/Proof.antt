@@ -11,15 +11,18 @@ use Rattle.solid_tiles.proofs.samples.sample_layers.Tie as tie
 
 abbrev Inv-loop : tie.InvT-loop
 Inv-loop code grid parent picture₀ count₀ z₀ picture count z =
-    AtLayer true 1 4 16 code grid [] (parent .x) (parent .xend) (parent .y) (parent .yend) (parent .z) (parent .zend)
-    picture₀ picture count z
+    AtLayer true 1 4 16 code grid []
+    (parent .x) (parent .xend) (parent .y) (parent .yend) (parent .z) (parent .zend) picture₀ picture count z
 
 abbrev μ-loop : tie.MeasureT-loop
 μ-loop code grid parent picture₀ count₀ z₀ picture count z = z - parent .z
 
--- The places: before the loop, at its test, in a turn, after the call, and past the loop.
+-- The places: the start, the loop, a turn of it, after the call, and past the loop.
+abbrev begun : tie.After-slice-known Inv-loop μ-loop → tie.Start Inv-loop μ-loop
+begun c = c .before .before
+
 abbrev start : tie.At-loop Inv-loop μ-loop → tie.Start Inv-loop μ-loop
-start c = c .before .before .before
+start c = begun (c .before)
 
 abbrev at-test : tie.Then1 Inv-loop μ-loop → tie.At-loop Inv-loop μ-loop
 at-test c = c .before .before
@@ -35,7 +38,7 @@ past c = c .before .before
 
 loop-holds : tie.Need-loop-holds Inv-loop μ-loop
 loop-holds c =
-    let p = c .before .before .pre .1 .1 in
+    let p = begun c .pre .1 .1 in
     layers-begin _ _ (omega arith) (omega arith) (omega arith) (omega arith) (omega arith) (omega arith)
 
 sub-z : tie.Need-sub-z Inv-loop μ-loop
@@ -47,17 +50,20 @@ sample-rows-requires c κs =
     let i = at-test t .loop .inv in
     let s = start (at-test t) in
     let p = s .pre .1 .1 in
-    (s .pre .0, (ready-again (s .pre .1 .0) (i .place .size), (p .0, (p .1, down-in (i .place) (t .if1 .taken) .1))))
+    let again = ready-again (s .pre .1 .0) (i .place .size) in
+    (s .pre .0, (again, (p .0, (p .1, down-in (i .place) (t .if1 .taken) .1))))
 
 add-count : tie.Need-add-count Inv-loop μ-loop
 add-count c =
     let t = in-turn (called c .before) in
     let l = at-test t in
-    omega (arith, sound-length (start l .pre .0), down-sum (l .loop .inv .place) (t .if1 .taken) (called c .sample-rows .ensures .bound))
+    let sum = down-sum (l .loop .inv .place) (t .if1 .taken) (called c .sample-rows .ensures .bound) in
+    omega (arith, sound-length (start l .pre .0), sum)
 
 loop-less : tie.Need-loop-less Inv-loop μ-loop
 loop-less c =
-    let t = in-turn (called c .before) in omega (arith, t .if1 .taken, down-in (at-test t .loop .inv .place) (t .if1 .taken) .0)
+    let t = in-turn (called c .before) in
+    omega (arith, t .if1 .taken, down-in (at-test t .loop .inv .place) (t .if1 .taken) .0)
 
 loop-again : tie.Need-loop-again Inv-loop μ-loop
 loop-again c =

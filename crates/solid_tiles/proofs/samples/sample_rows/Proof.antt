@@ -12,15 +12,18 @@ use Rattle.solid_tiles.proofs.samples.sample_rows.Tie as tie
 
 abbrev Inv-loop : tie.InvT-loop
 Inv-loop code grid parent z picture₀ count₀ y₀ picture count y =
-    AtRow true 1 4 4 code grid [] (parent .x) (parent .xend) (parent .y) (parent .yend) z
-    picture₀ picture count y
+    AtRow true 1 4 4 code grid []
+    (parent .x) (parent .xend) (parent .y) (parent .yend) z picture₀ picture count y
 
 abbrev μ-loop : tie.MeasureT-loop
 μ-loop code grid parent z picture₀ count₀ y₀ picture count y = parent .yend - y
 
--- The places: before the loop, at its test, in a turn, after the call, and past the loop.
+-- The places: the start, the loop, a turn of it, after the call, and past the loop.
+abbrev begun : tie.After-slice-known Inv-loop μ-loop → tie.Start Inv-loop μ-loop
+begun c = c .before .before
+
 abbrev start : tie.At-loop Inv-loop μ-loop → tie.Start Inv-loop μ-loop
-start c = c .before .before .before
+start c = begun (c .before)
 
 abbrev at-test : tie.Then1 Inv-loop μ-loop → tie.At-loop Inv-loop μ-loop
 at-test c = c .before .before
@@ -36,7 +39,7 @@ past c = c .before .before
 
 loop-holds : tie.Need-loop-holds Inv-loop μ-loop
 loop-holds c =
-    let p = c .before .before .pre .1 .1 in
+    let p = begun c .pre .1 .1 in
     rows-begin _ (omega arith) (omega arith)
 
 sample-row-requires : tie.Need-sample-row-requires Inv-loop μ-loop
@@ -45,13 +48,15 @@ sample-row-requires c κs =
     let i = at-test t .loop .inv in
     let s = start (at-test t) in
     let p = s .pre .1 .1 in
-    (s .pre .0, (ready-again (s .pre .1 .0) (i .place .size), (p .0, (p .1 .0, t .if1 .taken, p .1 .1))))
+    let again = ready-again (s .pre .1 .0) (i .place .size) in
+    (s .pre .0, (again, (p .0, (p .1 .0, t .if1 .taken, p .1 .1))))
 
 add-count : tie.Need-add-count Inv-loop μ-loop
 add-count c =
     let t = in-turn (called c .before) in
     let l = at-test t in
-    omega (arith, sound-length (start l .pre .0), up-sum (l .loop .inv .place) (t .if1 .taken) (called c .sample-row .ensures .bound))
+    let sum = up-sum (l .loop .inv .place) (t .if1 .taken) (called c .sample-row .ensures .bound) in
+    omega (arith, sound-length (start l .pre .0), sum)
 
 add-y : tie.Need-add-y Inv-loop μ-loop
 add-y c =

@@ -14,18 +14,22 @@ use Rattle.solid_tiles.proofs.sixteens.sixteen_row.Tie as tie
 
 abbrev Inv-loop : tie.InvT-loop
 Inv-loop code grid parent y z picture₀ choices₀ second₀ third₀ count₀ x₀ picture choices second third count x =
-    AtColumn true 16 4 4161 code grid below16 (parent .x) (parent .xend) y z
-    picture₀ picture count x
+    AtColumn true 16 4 4161 code grid below16
+    (parent .x) (parent .xend) y z picture₀ picture count x
     × (length choices ≡ length choices₀)
     × (length second ≡ length second₀)
     × (length third ≡ length third₀)
 
 abbrev μ-loop : tie.MeasureT-loop
-μ-loop code grid parent y z picture₀ choices₀ second₀ third₀ count₀ x₀ picture choices second third count x = parent .xend - x
+μ-loop code grid parent y z picture₀ choices₀ second₀ third₀ count₀ x₀
+    picture choices second third count x = parent .xend - x
 
--- The places: before the loop, at its test, in a turn, after the call, and past the loop.
+-- The places: the start, the loop, a turn of it, after the call, and past the loop.
+abbrev begun : tie.After-slice-known4 Inv-loop μ-loop → tie.Start Inv-loop μ-loop
+begun c = c .before .before .before .before .before
+
 abbrev start : tie.At-loop Inv-loop μ-loop → tie.Start Inv-loop μ-loop
-start c = c .before .before .before .before .before .before
+start c = begun (c .before)
 
 abbrev at-test : tie.Then1 Inv-loop μ-loop → tie.At-loop Inv-loop μ-loop
 at-test c = c .before .before
@@ -41,8 +45,12 @@ past c = c .before .before
 
 loop-holds : tie.Need-loop-holds Inv-loop μ-loop
 loop-holds c =
-    let p = c .before .before .before .before .before .pre .1 .1 in
-    (row-begins _ (omega arith) (omega arith), refl, refl, refl)
+    let p = begun c .pre .1 .1 in (
+      row-begins _ (omega arith) (omega arith),
+      refl,
+      refl,
+      refl,
+    )
 
 visit-sixteen-requires : tie.Need-visit-sixteen-requires Inv-loop μ-loop
 visit-sixteen-requires c κs =
@@ -50,13 +58,16 @@ visit-sixteen-requires c κs =
     let i = at-test t .loop .inv in
     let s = start (at-test t) in
     let p = s .pre .1 .1 in
-    (s .pre .0, (ready-again (s .pre .1 .0) (i .0 .place .size), (child-in _ _ _ (p .0) (t .if1 .taken) (p .1 .0 .1) (p .1 .0 .2), (omega arith, omega arith, omega arith))))
+    let again = ready-again (s .pre .1 .0) (i .0 .place .size) in
+    let inside = child-in _ _ _ (p .0) (t .if1 .taken) (p .1 .0 .1) (p .1 .0 .2) in
+    (s .pre .0, (again, (inside, (omega arith, omega arith, omega arith))))
 
 add-count : tie.Need-add-count Inv-loop μ-loop
 add-count c =
     let t = in-turn (called c .before) in
     let l = at-test t in
-    omega (arith, sound-length (start l .pre .0), up-sum (l .loop .inv .0 .place) (t .if1 .taken) (called c .visit-sixteen .ensures .bound))
+    let sum = up-sum (l .loop .inv .0 .place) (t .if1 .taken) (called c .visit-sixteen .ensures .bound) in
+    omega (arith, sound-length (start l .pre .0), sum)
 
 add-x : tie.Need-add-x Inv-loop μ-loop
 add-x c =
@@ -73,8 +84,12 @@ loop-again c =
     let v = called c .visit-sixteen in
     let t = in-turn (called c .before) in
     let i = at-test t .loop .inv in
-    let kept = v .kept .1 .1 .1 .1 .1 in
-    (row-again (i .0) (t .if1 .taken) (v .ensures) (kept .0), kept .1 .0 ∙ i .1, kept .1 .1 .0 ∙ i .2, kept .1 .1 .1 .0 ∙ i .3)
+    let kept = v .kept .1 .1 .1 .1 .1 in (
+      row-again (i .0) (t .if1 .taken) (v .ensures) (kept .0),
+      kept .1 .0 ∙ i .1,
+      kept .1 .1 .0 ∙ i .2,
+      kept .1 .1 .1 .0 ∙ i .3,
+    )
 
 same-length : tie.Need-same-length Inv-loop μ-loop
 same-length c = past c .loop .inv .0 .place .size

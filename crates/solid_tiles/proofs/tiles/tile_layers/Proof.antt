@@ -14,20 +14,28 @@ use Rattle.solid_tiles.proofs.tiles.tile_layers.Statement.{statement}
 use Rattle.solid_tiles.proofs.tiles.tile_layers.Tie as tie
 
 abbrev Inv-loop : tie.InvT-loop
-Inv-loop code grid parent picture₀ choices₀ first₀ second₀ third₀ count₀ z₀ picture choices first second third count z =
-    AtLayer true 64 8 (64 * solidBound) code grid below64 (parent .x) (parent .xend) (parent .y) (parent .yend) (parent .z) (parent .zend)
-    picture₀ picture count z
+Inv-loop code grid parent picture₀ choices₀ first₀ second₀ third₀ count₀ z₀
+    picture choices first second third count z =
+    AtLayer true 64 8 (64 * solidBound) code grid below64
+    (parent .x) (parent .xend) (parent .y) (parent .yend) (parent .z) (parent .zend) picture₀ picture count z
     × (length choices ≡ length choices₀)
     × (length first ≡ length first₀)
     × (length second ≡ length second₀)
     × (length third ≡ length third₀)
 
 abbrev μ-loop : tie.MeasureT-loop
-μ-loop code grid parent picture₀ choices₀ first₀ second₀ third₀ count₀ z₀ picture choices first second third count z = z - parent .z
+μ-loop code grid parent picture₀ choices₀ first₀ second₀ third₀ count₀ z₀
+    picture choices first second third count z = z - parent .z
 
--- The places: before the loop, at its test, in a turn, after the call, and past the loop.
+-- The places: the start, the loop, a turn of it, after the call, and past the loop.
+abbrev sized : tie.After-struct-known Inv-loop μ-loop → tie.Start Inv-loop μ-loop
+sized c = c .before .before .before .before .before .before .before
+
+abbrev begun : tie.After-struct-known2 Inv-loop μ-loop → tie.Start Inv-loop μ-loop
+begun c = sized (c .before)
+
 abbrev start : tie.At-loop Inv-loop μ-loop → tie.Start Inv-loop μ-loop
-start c = c .before .before .before .before .before .before .before .before .before
+start c = begun (c .before)
 
 abbrev at-test : tie.Then1 Inv-loop μ-loop → tie.At-loop Inv-loop μ-loop
 at-test c = c .before .before
@@ -42,21 +50,26 @@ abbrev past : tie.Else1 Inv-loop μ-loop → tie.At-loop Inv-loop μ-loop
 past c = c .before .before
 
 sub-z : tie.Need-sub-z Inv-loop μ-loop
-sub-z c = let d = small true _ (c .before .before .before .before .before .before .before .pre .1 .0 .fault) in omega arith
+sub-z c = let d = small true _ (sized c .pre .1 .0 .fault) in omega arith
 
 add-z : tie.Need-add-z Inv-loop μ-loop
-add-z c = let d = small true _ (c .before .before .before .before .before .before .before .pre .1 .0 .fault) in omega arith
+add-z c = let d = small true _ (sized c .pre .1 .0 .fault) in omega arith
 
 mul-z : tie.Need-mul-z Inv-loop μ-loop
-mul-z c = let d = small true _ (c .before .before .before .before .before .before .before .pre .1 .0 .fault) in omega arith
+mul-z c = let d = small true _ (sized c .pre .1 .0 .fault) in omega arith
 
 add-z-2 : tie.Need-add-z-2 Inv-loop μ-loop
-add-z-2 c = let d = small true _ (c .before .before .before .before .before .before .before .before .pre .1 .0 .fault) in omega arith
+add-z-2 c = let d = small true _ (begun c .pre .1 .0 .fault) in omega arith
 
 loop-holds : tie.Need-loop-holds Inv-loop μ-loop
 loop-holds c =
-    let p = c .before .before .before .before .before .before .before .before .pre .1 .1 in
-    (layers-begin _ _ (omega arith) (omega arith) (omega arith) (omega arith) (omega arith) (omega arith), refl, refl, refl, refl)
+    let p = begun c .pre .1 .1 in (
+      layers-begin _ _ (omega arith) (omega arith) (omega arith) (omega arith) (omega arith) (omega arith),
+      refl,
+      refl,
+      refl,
+      refl,
+    )
 
 sub-z-2 : tie.Need-sub-z-2 Inv-loop μ-loop
 sub-z-2 c = down-in (at-test c .loop .inv .0 .place) (c .if1 .taken) .0
@@ -67,25 +80,33 @@ tile-rows-requires c κs =
     let i = at-test t .loop .inv in
     let s = start (at-test t) in
     let p = s .pre .1 .1 in
-    (s .pre .0, (ready-again (s .pre .1 .0) (i .0 .place .size), (p .0, ((p .1 .0, down-in (i .0 .place) (t .if1 .taken) .1), (omega arith, omega arith, omega arith, omega arith)))))
+    let again = ready-again (s .pre .1 .0) (i .0 .place .size) in
+    (s .pre .0, (again, (p .0, ((p .1 .0, down-in (i .0 .place) (t .if1 .taken) .1), (omega arith, omega arith, omega arith, omega arith)))))
 
 add-count : tie.Need-add-count Inv-loop μ-loop
 add-count c =
     let t = in-turn (called c .before) in
     let l = at-test t in
-    omega (arith, sound-length (start l .pre .0), down-sum (l .loop .inv .0 .place) (t .if1 .taken) (called c .tile-rows .ensures .bound))
+    let sum = down-sum (l .loop .inv .0 .place) (t .if1 .taken) (called c .tile-rows .ensures .bound) in
+    omega (arith, sound-length (start l .pre .0), sum)
 
 loop-less : tie.Need-loop-less Inv-loop μ-loop
 loop-less c =
-    let t = in-turn (called c .before) in omega (arith, t .if1 .taken, down-in (at-test t .loop .inv .0 .place) (t .if1 .taken) .0)
+    let t = in-turn (called c .before) in
+    omega (arith, t .if1 .taken, down-in (at-test t .loop .inv .0 .place) (t .if1 .taken) .0)
 
 loop-again : tie.Need-loop-again Inv-loop μ-loop
 loop-again c =
     let v = called c .tile-rows in
     let t = in-turn (called c .before) in
     let i = at-test t .loop .inv in
-    let kept = v .kept .1 .1 .1 .1 in
-    (layers-again (i .0) (t .if1 .taken) (v .ensures) (kept .0), kept .1 .0 ∙ i .1, kept .1 .1 .0 ∙ i .2, kept .1 .1 .1 .0 ∙ i .3, kept .1 .1 .1 .1 .0 ∙ i .4)
+    let kept = v .kept .1 .1 .1 .1 in (
+      layers-again (i .0) (t .if1 .taken) (v .ensures) (kept .0),
+      kept .1 .0 ∙ i .1,
+      kept .1 .1 .0 ∙ i .2,
+      kept .1 .1 .1 .0 ∙ i .3,
+      kept .1 .1 .1 .1 .0 ∙ i .4,
+    )
 
 same-length : tie.Need-same-length Inv-loop μ-loop
 same-length c = past c .loop .inv .0 .place .size

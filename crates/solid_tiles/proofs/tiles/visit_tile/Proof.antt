@@ -14,12 +14,15 @@ use borrow.Author.Needs.{needs}
 use Rattle.solid_tiles.proofs.tiles.visit_tile.Statement.{statement}
 use Rattle.solid_tiles.proofs.tiles.visit_tile.Tie as tie
 
--- The places: after the look, the arm of a cut, the call for its children, and after it.
-abbrev start : tie.After-look → tie.Start
-start c = c .before .before .before .before .before .before .before .before .before .before .before
+-- The places: the start, after the look, the arm of a cut, the call for its children, and after it.
+abbrev begun : tie.After-cell-at → tie.Start
+begun c = c .before .before .before .before .before .before .before
 
 abbrev with-cell : tie.After-look → tie.After-cell-at
 with-cell c = c .before .before .before .before
+
+abbrev start : tie.After-look → tie.Start
+start c = begun (with-cell c)
 
 abbrev looked : tie.After-known-told2 → tie.After-look
 looked c = c .before .before .before .before .before .before .before .before .before
@@ -32,14 +35,16 @@ visited c = c .before .before .before .before .before .before .before .before
 
 -- What is known at them.
 made : (c : tie.After-look)
-    → let a = start c .args in CellOf (a .grid .depth) (a .grid) (region (a .x) (a .y) (a .z) 64) (with-cell c .cell-at .result)
+    → let a = start c .args in
+    CellOf (a .grid .depth) (a .grid) (region (a .x) (a .y) (a .z) 64) (with-cell c .cell-at .result)
 made c = with-cell c .cell-at .ensures
 
 opened : (c : tie.After-known-told2)
     → let j = looked c in
     let a = start j .args in
-    Opened true (a .code .now) (a .grid) (regionIn (with-cell j .cell-at .result)) (a .picture .now) (j .look .last .1 .1 .1 .0)
-    (j .look .last .1 .1 .1 .1 .1 .0) (c .before .seen2 .given .0 .0)
+    let now = j .look .last .1 .1 .1 in
+    Opened true (a .code .now) (a .grid) (regionIn (with-cell j .cell-at .result)) (a .picture .now) (now .0)
+    (now .1 .1 .0) (c .before .seen2 .given .0 .0)
 opened c = open-of true _ _ _ _ _ _ (looked c .look .ensures) (c .before .seen2 .given .1)
 
 cell-at-requires : tie.Need-cell-at-requires
@@ -50,7 +55,7 @@ cell-at-requires c κs =
 look-requires : tie.Need-look-requires
 look-requires c κs =
     let made = c .before .before .before in
-    let s = made .before .before .before .before .before .before .before in
+    let s = begun made in
     let r = s .pre .1 .1 .1 in
     (s .pre .0, (s .pre .1 .0, (made .cell-at .ensures .ok, (omega arith, omega arith))))
 
@@ -85,10 +90,10 @@ sixteen-layers-requires c κs =
     let k = made j in
     let r = s .pre .1 .1 .1 in
     let f = open-fewer (s .pre .0) (opened t) in
-    let short = open-sound (s .pre .0) (opened t) in (
-      search (short, s .pre .0),
-      (ready-again (s .pre .1 .0) (j .look .kept .1 .1 .1 .0), (k .ok, (ap (λ (q : Region). q .long) (k .same), (omega arith, omega arith, omega arith)))),
-    )
+    let short = open-sound (s .pre .0) (opened t) in
+    let again = ready-again (s .pre .1 .0) (j .look .kept .1 .1 .1 .0) in
+    let side = ap (λ (q : Region). q .long) (k .same) in
+    (search (short, s .pre .0), (again, (k .ok, (side, (omega arith, omega arith, omega arith)))))
 
 add-result : tie.Need-add-result
 add-result c =
@@ -109,7 +114,8 @@ same-length-3 c = search needs
 returns : tie.Need-returns
 returns c =
     let j = c .before .before .before .before .before .before .before .before .before in
-    done-visits solidBound 16 below16 (made j .same) (omega arith) (done-of true _ _ _ _ _ _ (j .look .ensures) (c .before .seen .given .1))
+    done-visits solidBound 16 below16 (made j .same) (omega arith)
+    (done-of true _ _ _ _ _ _ (j .look .ensures) (c .before .seen .given .1))
 
 same-length-4 : tie.Need-same-length-4
 same-length-4 c = search needs
@@ -132,8 +138,8 @@ returns-2 c =
     let t = in-cut (u .before) in
     let j = looked t in
     let s = start j in
-    open-layers 16 4 (s .pre .0) (omega arith) (omega arith) refl (made j) (s .pre .1 .0 .fault) (opened t) below16 (64 * 4161)
-    (u .sixteen-layers .ensures)
+    open-layers 16 4 (s .pre .0) (omega arith) (omega arith) refl (made j) (s .pre .1 .0 .fault) (opened t)
+    below16 (64 * 4161) (u .sixteen-layers .ensures)
 
 pub visit-tile-spec : {M : Type 1} → statement M
 visit-tile-spec =
