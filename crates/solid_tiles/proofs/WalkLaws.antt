@@ -18,7 +18,8 @@ use Rattle.solid_tiles.specs.Sides.{below64}
 
 module _ {ws : List ℕ} {grid : Grid} {cell : Cell} (k : CellOf (grid .depth) grid whole cell)
     (e : gridFault true (gridIn grid true) ≡ 0) {most c : ℕ} {b b′ : List ℕ}
-    (f : Folds true most ws grid below64 (alongZ 8 8 (cell .x) (cell .y) (cell .z) 64 (cell .xend) (cell .yend) (cell .zend)) b b′ c)
+    (f : Folds true most ws grid below64
+    (alongZ 8 8 (cell .x) (cell .y) (cell .z) 64 (cell .xend) (cell .yend) (cell .zend)) b b′ c)
     (h : b ≡ replicate (grid .width * grid .height) 0) where
   tiles : children (gridIn grid true) whole 64
       ≡ alongZ 8 8 (cell .x) (cell .y) (cell .z) 64 (cell .xend) (cell .yend) (cell .zend)

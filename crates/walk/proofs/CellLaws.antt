@@ -89,8 +89,16 @@ module _ (isSolid : Bool) (grid : Grid) (c : Cell) (k : CellOk (layersIn isSolid
       let y = k .ys in
       let z = k .zs in
       record {
-        xs = record { some = x .some; low = a .x-value (c .x) (omega arith); high = a .x-value (c .xend - 1) (omega arith) };
-        ys = record { some = y .some; low = a .y-value (c .y) (omega arith); high = a .y-value (c .yend - 1) (omega arith) };
+        xs = record {
+          some = x .some;
+          low = a .x-value (c .x) (omega arith);
+          high = a .x-value (c .xend - 1) (omega arith);
+        };
+        ys = record {
+          some = y .some;
+          low = a .y-value (c .y) (omega arith);
+          high = a .y-value (c .yend - 1) (omega arith);
+        };
         zs = record {
           some = z .some;
           low = z-value isSolid grid e (c .z) (omega arith);
@@ -118,13 +126,12 @@ module _ (grid : Grid) (c : Cell) where
   unfolding boxOf
   flat-box k =
       let z = k .zs in
-      let first = at-first (grid .zfirst) (grid .zstep) in
-      let low : c .z ≡ 0 = omega arith in
-      let high : c .zend - 1 ≡ 0 = omega arith in
+      let first : (k : ℕ) → k ≡ 0 → at (grid .zfirst) (grid .zstep) k ≡ grid .zfirst =
+      λ k h. ap (at (grid .zfirst) (grid .zstep)) h ∙ at-first (grid .zfirst) (grid .zstep) in
       boxes
       (span-least (grid .xfirst) (grid .xstep) (c .x) (k .xs .least))
       (span-least (grid .yfirst) (grid .ystep) (c .y) (k .ys .least))
-      (both range (ap (at (grid .zfirst) (grid .zstep)) low ∙ first) (ap (at (grid .zfirst) (grid .zstep)) high ∙ first))
+      (both range (first (c .z) (omega arith)) (first (c .zend - 1) (omega arith)))
 
 pub cell-box : (isSolid : Bool) (grid : Grid) (c : Cell) → CellOk (layersIn isSolid grid) grid c
     → gridFault isSolid (gridIn grid isSolid) ≡ 0 → boxAt grid c ≡ boxOf (gridIn grid isSolid) (regionIn c)

@@ -8,11 +8,13 @@ use native.Mathlib.Omega.{arith}
 use lib.Dec.{ltb}
 use borrow.Author.Tests.{lt-ltb, le-ltb, le-leb, lt-leb}
 use Rattle.rules.specs.Values.{pick}
-use Rattle.rules.specs.Drawings.{Grid, solid, Region, region, lesser, pastX, pastY, alongX, alongY, alongZ, children, whole}
-use Rattle.rules.proofs.Regions.{along, along-x, along-y, along-z, over-parts, Divides, lesser-most, lesser-both, Fits, steps-whole}
+use Rattle.rules.specs.Drawings.{Grid, solid, Region, region, lesser, pastX}
+use Rattle.rules.specs.Drawings.{pastY, alongX, alongY, alongZ, children, whole}
+use Rattle.rules.proofs.Regions.{along, along-x, along-y, along-z, over-parts}
+use Rattle.rules.proofs.Regions.{Divides, lesser-most, lesser-both, Fits, steps-whole}
 
--- Upward along one axis: the lists f a for a ≡ x, x + n, .. below past. The counter past − x is never too small, so that a
--- loop has only its x to carry.
+-- Upward along one axis: the lists f a for a ≡ x, x + n, .. below past. The counter past − x is never too small, so
+-- that a loop has only its x to carry.
 unfoldable pub upLeft : ℕ → ℕ → ℕ → (ℕ → List Region) → List Region
 upLeft x n past f = along true (past - x) x n past f
 
@@ -66,14 +68,16 @@ module _ (n : ℕ) (f : ℕ → List Region) (some : 1 ≤ n) where
       rw (h, lt-ltb z (z + n) (omega arith), le-ltb z z (omega arith))
       (rw (down-end m (z + n) (z + n) (omega arith), down-end m (z + n) z (omega arith), append-nil))
   down-one (suc m) (suc a) k z l e =
-      rw (lt-ltb k (z + n) (omega arith), lt-ltb k z (omega arith), down-one m a (k + n) z (omega arith) (omega arith), append-assoc)
+      let more = down-one m a (k + n) z (omega arith) (omega arith) in
+      rw (lt-ltb k (z + n) (omega arith), lt-ltb k z (omega arith), more, append-assoc)
 
   -- Past and the least k + a·n from it on are the same to the list.
   down-same : (m a k z past : ℕ) → z ≡ k + a * n → past ≤ z → z < past + n
       → along false m k n past f ≡ along false m k n z f
   unfolding along
   down-same zero a k z past e h l = refl
-  down-same (suc m) zero k z past e h l = down-end (suc m) k past (omega arith) ∙ sym (down-end (suc m) k z (omega arith))
+  down-same (suc m) zero k z past e h l =
+      down-end (suc m) k past (omega arith) ∙ sym (down-end (suc m) k z (omega arith))
   down-same (suc m) (suc a) k z past e h l =
       rw (lt-ltb k past (omega arith), lt-ltb k z (omega arith), down-same m a (k + n) z past (omega arith) h l)
 
@@ -109,7 +113,8 @@ rows-along : (m l i j k n px py : ℕ) → alongY m l i j k n px py ≡ along tr
 rows-along m l i j k n px py = simp (along-x, along-y)
 
 module _ (l i k n px py : ℕ) (some : 1 ≤ n) where
-  pub rows-cons : (m y : ℕ) → y < py → alongY (suc m) l i y k n px py ≡ alongX l i y k n px ++ alongY m l i (y + n) k n px py
+  pub rows-cons : (m y : ℕ) → y < py → alongY (suc m) l i y k n px py ≡ alongX l i y k n px ++ alongY m l i
+      (y + n) k n px py
   unfolding alongY
   rows-cons m y h = rw (lt-ltb y py h)
 
@@ -208,7 +213,8 @@ pub part-one : (w i : ℕ) → i < w → lesser w (i + 1) ≡ i + 1
 part-one w i h = let p = part w i 1 h (omega arith) in omega arith
 
 -- The 64-tiles of a grid.
-pub tiles-flat : (g : Grid) → solid g ≡ false → Fits g → children g whole 64 ≡ alongY 8 8 0 0 0 64 (g .width) (g .height)
+pub tiles-flat : (g : Grid) → solid g ≡ false → Fits g → children g whole 64 ≡ alongY 8 8 0 0 0 64 (g .width)
+    (g .height)
 tiles-flat g e f =
     children-rows g whole 64 8 e steps-whole refl
     ∙ rw (lesser-first (g .width) 512 (f .width), lesser-first (g .height) 512 (f .height))
@@ -218,4 +224,5 @@ pub tiles-solid : (g : Grid) → solid g ≡ true → Fits g
 tiles-solid g e f =
     let h : g .depth ≤ 512 = rw e at (f .layers) in
     children-layers g whole 64 8 e steps-whole
-    ∙ rw (lesser-first (g .width) 512 (f .width), lesser-first (g .height) 512 (f .height), lesser-first (g .depth) 512 h)
+    ∙ rw (lesser-first (g .width) 512 (f .width), lesser-first (g .height) 512 (f .height))
+    (rw (lesser-first (g .depth) 512 h))

@@ -11,8 +11,10 @@ use lib.Signed.{ltZ}
 use borrow.Author.Tests.{le-ltb}
 use Rattle.rules.specs.Values.{isNeg}
 use Rattle.rules.specs.Tapes.{Tape, material, rangeOver}
-use Rattle.rules.specs.Drawings.{Grid, solid, sampleAt, Region, boxOf, State, state, hidden, children, fold, counted, fillIn, shortTape, visit, sides, whole, walked}
-use Rattle.rules.proofs.Visit.{visit-hidden, visit-full, visit-empty, visit-cut, visit-sample, sample-full, sample-empty}
+use Rattle.rules.specs.Drawings.{Grid, solid, sampleAt, Region, boxOf, State, state, hidden}
+use Rattle.rules.specs.Drawings.{children, fold, counted, fillIn, shortTape, visit, sides, whole, walked}
+use Rattle.rules.proofs.Visit.{visit-hidden, visit-full, visit-empty}
+use Rattle.rules.proofs.Visit.{visit-cut, visit-sample, sample-full, sample-empty}
 use Rattle.walk.specs.Draws.{Draws, Fills, Hidden, Same}
 
 -- Nothing is drawn.
@@ -78,11 +80,13 @@ module _ {R : List ℕ → List ℕ → Type 0} (F : Region → State → State)
   rest-from {us} b h = rw h (rest-start R (fold F us) b)
 
 module _ {R : List ℕ → List ℕ → Type 0} {f : State → State} (F : Region → State → State) {b₀ b : List ℕ} {c : ℕ} where
-  pub rest-list : (xs ys : List Region) {us : List Region} {b′ : List ℕ} {d : ℕ} → us ≡ xs ++ ys → Rest R f (fold F us) b₀ b c
+  pub rest-list : (xs ys : List Region) {us : List Region} {b′ : List ℕ} {d : ℕ} → us ≡ xs ++ ys
+      → Rest R f (fold F us) b₀ b c
       → Draws R (fold F xs) b b′ d → Rest R f (fold F ys) b₀ b′ (c + d)
   rest-list xs ys {us} {b′} {d} h t u =
       record {
-        go-on = λ e m v. draws-count {c = c + (d + m)} (omega arith) (t .go-on e (d + m) (rw h (fold-list F xs ys u v)));
+        go-on = λ e m v.
+            draws-count {c = c + (d + m)} (omega arith) (t .go-on e (d + m) (rw h (fold-list F xs ys u v)));
       }
 
   pub rest-one : {us ys : List Region} {q : Region} {b′ : List ℕ} {d : ℕ} → us ≡ q ∷ ys → Rest R f (fold F us) b₀ b c
@@ -161,15 +165,3 @@ unfolding walked
 draws-walked t g u h =
     let s = state (replicate (g .width * g .height) 0) 0 in
     (u .shown s h, u .count s h ∙ zero-add _)
-
--- How a function is proved by these laws. F is the visit of a child with its region's short tape; l regions of side n.
--- A level ensures `Draws R (visit ns t g r) entry exit result`; a loop over children the same of `fold F` of a row
--- (alongX l i y k n px), of rows (alongY l l ..) or of layers (alongZ l l ..).
--- A loop's invariant: `Rest R (fold F all) (fold F left) entry now count`, where left is rowLeft x .., rowsLeft y .., or
--- alongZ .. z with the loop's z for pz; beside it, for `omega`, i ≤ x, (x - i) % n ≡ 0 (of layers (z - k) % n ≡ 0 and
--- z ≤ k + l * n), the bound of the count, and the picture's length.
--- It holds at first by `rest-from _ _ (row-start ..)`, again by `rest-one _ (row-step .. taken) rest ensured`, of rows and
--- layers by `rest-list _ _ _ (rows-step .. taken) rest ensured`; it ends by `rest-done _ (row-end ..) rest`.
--- A level then cites the law of its case (flat: with `seen-flat`); `draws-cut` wants the fold over `children g r n`, which
--- `children-rows` and `children-layers` rewrite to what the loop ensures. At the top: `tiles-flat` or `tiles-solid`, and
--- `draws-walked`.

@@ -59,7 +59,8 @@ module _ (isSolid : Bool) {ws : List ℕ} {grid : Grid} {r : Region} {b : List �
 -- A region that is seen, with the range x over it.
 module _ (isSolid : Bool) {ws : List ℕ} {grid : Grid} {c : Cell} {b hs hs′ : List ℕ} {x : Range}
     (k : CellOk (layersIn isSolid grid) grid c) (f : gridFault isSolid (gridIn grid isSolid) ≡ 0)
-    (e : Hidden (Shown isSolid grid) (gridIn grid isSolid) (regionIn c) b false) (v : Bounded ws (boxAt grid c) hs hs′ x) where
+    (e : Hidden (Shown isSolid grid) (gridIn grid isSolid) (regionIn c) b false)
+    (v : Bounded ws (boxAt grid c) hs hs′ x) where
   over-region : Bounded ws (boxOf (gridIn grid isSolid) (regionIn c)) hs hs′ x
   over-region = rw (cell-box isSolid grid c k f) at v
 
@@ -91,7 +92,8 @@ module _ (isSolid : Bool) {ws : List ℕ} {grid : Grid} {c : Cell} {b hs hs′ :
         bound = omega arith;
       }
 
-  pub opened : {next next′ : List ℕ} {start : ℕ} → IsMixed x → Shortened ws hs′ next next′ start → length next′ ≡ length next
+  pub opened : {next next′ : List ℕ} {start : ℕ} → IsMixed x → Shortened ws hs′ next next′ start
+      → length next′ ≡ length next
       → Opened isSolid ws grid (regionIn c) b b next′ start
   opened {next} {next′} {start} j s h =
       record {
@@ -114,7 +116,8 @@ module _ (isSolid : Bool) (ws : List ℕ) (grid : Grid) (r : Region) (b b′ nex
   open-of e = subst (λ u. Looked isSolid ws grid r b b′ next u) e j
 
 -- Done without its children: at most one run is counted.
-pub done-visits : {isSolid : Bool} {ws : List ℕ} {grid : Grid} {q r : Region} {b b′ : List ℕ} {c : ℕ} (k n : ℕ) (ns : List ℕ)
+pub done-visits : {isSolid : Bool} {ws : List ℕ} {grid : Grid} {q r : Region} {b b′ : List ℕ} {c : ℕ} (k n : ℕ)
+    (ns : List ℕ)
     → q ≡ r → 1 ≤ k → Finished isSolid ws grid q b b′ c → Visits isSolid k ws grid (n ∷ ns) r b b′ c
 done-visits {ws = ws} k n ns e h f =
     rw (← e)
@@ -149,14 +152,17 @@ module _ {isSolid : Bool} {ws : List ℕ} {grid : Grid} {q : Region} {b b₁ nex
   pub open-fewer : length (take (length next - start) (drop start next)) ≤ length ws
   open-fewer = rw (lent-words start next) short-fewer
 
-  cut-visits : (n : ℕ) (ns : List ℕ) (k : ℕ) {c : ℕ} {qs : List Region} {b′ : List ℕ} → children (gridIn grid isSolid) q n ≡ qs
+  cut-visits : (n : ℕ) (ns : List ℕ) (k : ℕ) {c : ℕ} {qs : List Region} {b′ : List ℕ}
+      → children (gridIn grid isSolid) q n ≡ qs
       → Folds isSolid k (drop start next) grid ns qs b₁ b′ c
       → Visits isSolid (suc k) ws grid (n ∷ ns) q b b′ (length ws + c)
   cut-visits n ns k {c} {qs} {b′} h f =
       record {
         draws = λ m a.
             (let x = o .cut .range m (fit-of a) in
-            let u : Draws (Shown isSolid grid) (fold (λ p y. visit ns (tapeIn m (drop start next)) (gridIn grid isSolid) p y) (children (gridIn grid isSolid) q n)) b b′ c =
+            let g = gridIn grid isSolid in
+            let short = tapeIn m (drop start next) in
+            let u : Draws (Shown isSolid grid) (fold (λ p y. visit ns short g p y) (children g q n)) b b′ c =
             rw (h, ← o .same) (f .draws m (short-again m a)) in
             draws-count (omega (arith, length-clauses ws))
             (draws-cut (o .seen) (tapeIn m ws) n ns (x .high) (x .low) (rw (o .cut .short m (fit-of a)) at u)));
@@ -170,7 +176,8 @@ module _ {isSolid : Bool} {ws : List ℕ} {grid : Grid} {q : Region} {b b₁ nex
   open-visits n ns k e h f = rw (← e) (cut-visits n ns k h (rw (lent-words start next) at f))
 
 -- The same of a cell whose children are l layers, or l rows, of side n.
-module _ {ws : List ℕ} {grid : Grid} {cell : Cell} {r : Region} {b b₁ next : List ℕ} {start : ℕ} (n l : ℕ) (s : Sound ws)
+module _ {ws : List ℕ} {grid : Grid} {cell : Cell} {r : Region} {b b₁ next : List ℕ} {start : ℕ} (n l : ℕ)
+    (s : Sound ws)
     (some : 1 ≤ n) (some-part : 1 ≤ l) (parts : r .long ≡ l * n) where
   pub open-layers : CellOf (grid .depth) grid r cell → gridFault true (gridIn grid true) ≡ 0
       → Opened true ws grid (regionIn cell) b b₁ next start → (ns : List ℕ) (k : ℕ) {c : ℕ} {b′ : List ℕ}

@@ -18,7 +18,8 @@ use Rattle.walk.specs.Cells.{Ready}
 use Rattle.walk.specs.Walks.{Shown, Visits, Folds}
 
 -- What is left of a list of regions, with the words on every number of slots on which they are an accepted tape.
-pub record Left (isSolid : Bool) (ws : List ℕ) (grid : Grid) (ns : List ℕ) (all left : List Region) (b₀ b : List ℕ) (count : ℕ) : Type 0 where
+pub record Left (isSolid : Bool) (ws : List ℕ) (grid : Grid) (ns : List ℕ) (all left : List Region) (b₀ b : List ℕ)
+    (count : ℕ) : Type 0 where
   pub rest : (m : ℕ) → Accepted (tapeIn m ws)
       → Rest (Shown isSolid grid) (fold (λ q s. visit ns (tapeIn m ws) (gridIn grid isSolid) q s) all)
       (fold (λ q s. visit ns (tapeIn m ws) (gridIn grid isSolid) q s) left) b₀ b count
@@ -28,20 +29,24 @@ module _ {isSolid : Bool} {ws : List ℕ} {grid : Grid} {ns : List ℕ} where
   left-from b h = record { rest = λ m a. rest-from _ b h }
 
   module _ {all us : List Region} {b₀ b : List ℕ} {c : ℕ} where
-    pub left-one : {ys : List Region} {q : Region} {b′ : List ℕ} {most d : ℕ} → us ≡ q ∷ ys → Left isSolid ws grid ns all us b₀ b c
+    pub left-one : {ys : List Region} {q : Region} {b′ : List ℕ} {most d : ℕ} → us ≡ q ∷ ys
+        → Left isSolid ws grid ns all us b₀ b c
         → Visits isSolid most ws grid ns q b b′ d → Left isSolid ws grid ns all ys b₀ b′ (c + d)
     left-one h t v = record { rest = λ m a. rest-one _ h (t .rest m a) (v .draws m a) }
 
-    pub left-list : {xs ys : List Region} {b′ : List ℕ} {most d : ℕ} → us ≡ xs ++ ys → Left isSolid ws grid ns all us b₀ b c
+    pub left-list : {xs ys : List Region} {b′ : List ℕ} {most d : ℕ} → us ≡ xs ++ ys
+        → Left isSolid ws grid ns all us b₀ b c
         → Folds isSolid most ws grid ns xs b b′ d → Left isSolid ws grid ns all ys b₀ b′ (c + d)
     left-list {xs} {ys} h t v = record { rest = λ m a. rest-list _ xs ys h (t .rest m a) (v .draws m a) }
 
-    pub left-done : {most : ℕ} → us ≡ [] → c ≤ most * length ws → Left isSolid ws grid ns all us b₀ b c → Folds isSolid most ws grid ns all b₀ b c
+    pub left-done : {most : ℕ} → us ≡ [] → c ≤ most * length ws → Left isSolid ws grid ns all us b₀ b c
+        → Folds isSolid most ws grid ns all b₀ b c
     left-done h k t = record { draws = λ m a. rest-done _ h (t .rest m a); bound = k }
 
--- A loop upward along an axis, at x: at most l parts of side n from i on and before past. Each counts at most `most` runs
--- of the words.
-pub record Upward (isSolid : Bool) (n l most : ℕ) (ws : List ℕ) (grid : Grid) (ns : List ℕ) (all left : List Region) (i past : ℕ) (b₀ b : List ℕ) (count x : ℕ) : Type 0 where
+-- A loop upward along an axis, at x: at most l parts of side n from i on and before past. Each counts at most `most`
+-- runs of the words.
+pub record Upward (isSolid : Bool) (n l most : ℕ) (ws : List ℕ) (grid : Grid) (ns : List ℕ) (all left : List Region)
+    (i past : ℕ) (b₀ b : List ℕ) (count x : ℕ) : Type 0 where
   pub rest : Left isSolid ws grid ns all left b₀ b count
   pub done : ℕ
   pub some : 1 ≤ n
@@ -52,7 +57,8 @@ pub record Upward (isSolid : Bool) (n l most : ℕ) (ws : List ℕ) (grid : Grid
   pub size : length b ≡ length b₀
 
 -- Downward along z: the parts from z on are done.
-pub record Downward (isSolid : Bool) (n l most : ℕ) (ws : List ℕ) (grid : Grid) (ns : List ℕ) (all left : List Region) (k past : ℕ) (b₀ b : List ℕ) (count z : ℕ) : Type 0 where
+pub record Downward (isSolid : Bool) (n l most : ℕ) (ws : List ℕ) (grid : Grid) (ns : List ℕ)
+    (all left : List Region) (k past : ℕ) (b₀ b : List ℕ) (count z : ℕ) : Type 0 where
   pub rest : Left isSolid ws grid ns all left b₀ b count
   pub done : ℕ
   pub some : 1 ≤ n
@@ -75,8 +81,10 @@ all-most : (l most total n done count : ℕ) → count ≤ done * (most * n) →
 all-most l most total n done count h k e =
     omega (arith, mul-le-mul-right (most * n) k, mul-assoc l most n, mul-le-mul-right n e)
 
-module _ {isSolid : Bool} {n l most : ℕ} {ws : List ℕ} {grid : Grid} {ns : List ℕ} {all us : List Region} {i past : ℕ} where
-  pub up-starts : (b : List ℕ) → all ≡ us → 1 ≤ n → past ≤ i + l * n → Upward isSolid n l most ws grid ns all us i past b b 0 i
+module _ {isSolid : Bool} {n l most : ℕ} {ws : List ℕ} {grid : Grid} {ns : List ℕ} {all us : List Region}
+    {i past : ℕ} where
+  pub up-starts : (b : List ℕ) → all ≡ us → 1 ≤ n → past ≤ i + l * n
+      → Upward isSolid n l most ws grid ns all us i past b b 0 i
   up-starts b h o f =
       record {
         rest = left-from b h;
@@ -97,7 +105,8 @@ module _ {isSolid : Bool} {n l most : ℕ} {ws : List ℕ} {grid : Grid} {ns : L
     up-sum {d} t k = sum-most l (most * length ws) (u .done) count d (u .bound) k (up-more t)
 
     up-again : {d : ℕ} {ys : List Region} {b′ : List ℕ} → x < past → d ≤ most * length ws → length b′ ≡ length b
-        → Left isSolid ws grid ns all ys b₀ b′ (count + d) → Upward isSolid n l most ws grid ns all ys i past b₀ b′ (count + d) (x + n)
+        → Left isSolid ws grid ns all ys b₀ b′ (count + d) → Upward isSolid n l most ws grid ns all ys i past b₀ b′
+        (count + d) (x + n)
     up-again t k e v =
         record {
           rest = v;
@@ -123,7 +132,8 @@ module _ {isSolid : Bool} {n l most : ℕ} {ws : List ℕ} {grid : Grid} {ns : L
     pub up-done : {total : ℕ} → us ≡ [] → l * most ≤ total → Folds isSolid total ws grid ns all b₀ b count
     up-done h m = left-done h (all-most l most _ (length ws) (u .done) count (u .bound) (u .few) m) (u .rest)
 
-module _ {isSolid : Bool} {n l most : ℕ} {ws : List ℕ} {grid : Grid} {ns : List ℕ} {all us : List Region} {k past : ℕ} where
+module _ {isSolid : Bool} {n l most : ℕ} {ws : List ℕ} {grid : Grid} {ns : List ℕ} {all us : List Region}
+    {k past : ℕ} where
   pub down-starts : (b : List ℕ) (z : ℕ) → all ≡ us → 1 ≤ n → k ≤ z → (z - k) % n ≡ 0 → z < past + n → z ≤ k + l * n
       → Downward isSolid n l most ws grid ns all us k past b b 0 z
   down-starts b z h o f e t w =

@@ -3,12 +3,14 @@ use mathlib.Core.Path.{_≡_, refl, ap, _∙_}
 use mathlib.Core.Bool.{Bool, true, false, _&&_}
 use mathlib.Core.List.{List}
 use Prim.Native.Nat.{ℕ, zero, suc, _+_, _-_, _*_, _≤_, _<_}
-use native.Mathlib.Nat.{add-zero, zero-add, suc-add, add-mul, add-sub-of-le, sub-self, add-sub-cancel-left, sub-eq-zero-of-le}
+use native.Mathlib.Nat.{add-zero, zero-add, suc-add, add-mul}
+use native.Mathlib.Nat.{add-sub-of-le, sub-self, add-sub-cancel-left, sub-eq-zero-of-le}
 use native.Mathlib.Omega.{arith}
 use lib.Dec.{ltb, leb}
 use lib.ListN.{getD, set}
 use Rattle.rules.specs.Values.{pick}
-use Rattle.rules.specs.Drawings.{Grid, solid, Region, region, pastX, pastY, pastZ, raiseRow, raiseRows, filled, hidden, rowHigh, rowsHigh}
+use Rattle.rules.specs.Drawings.{Grid, solid, Region, region, pastX, pastY}
+use Rattle.rules.specs.Drawings.{pastZ, raiseRow, raiseRows, filled, hidden, rowHigh, rowsHigh}
 use Rattle.walk.specs.Draws.{Fills, Raises, Same}
 use Rattle.walk.proofs.Children.{part-one}
 
@@ -58,7 +60,8 @@ row-after : (y j w i m z : ℕ) (h : List ℕ) → j ≤ y → raiseRows (y + 1 
     ≡ raiseRow m (y * w + i) z (raiseRows (y - j) w (j * w + i) m z h)
 row-after y j w i m z h l =
     let e : y + 1 - j ≡ suc (y - j) = omega arith in
-    let f : j * w + i + (y - j) * w ≡ y * w + i = omega (arith, add-mul j (y - j) w, ap (λ v. v * w) (add-sub-of-le l)) in
+    let f : j * w + i + (y - j) * w ≡ y * w + i =
+    omega (arith, add-mul j (y - j) w, ap (λ v. v * w) (add-sub-of-le l)) in
     ap (λ v. raiseRows v w (j * w + i) m z h) e
     ∙ raise-rows-one (y - j) w (j * w + i) m z h
     ∙ ap (λ v. raiseRow m v z (raiseRows (y - j) w (j * w + i) m z h)) f
@@ -68,7 +71,8 @@ pub fill-step : {R : List ℕ → List ℕ → Type 0} {g : Grid} {r : Region} {
     → FilledTo R g r (y + 1) b₀ b′
 fill-step {R} {g} {r} {y} {b₀} {b} {b′} l u v =
     record {
-      shown = λ h k. rw (row-after y (r .j) (g .width) (r .i) (pastX g r - r .i) (pastZ g r) h l) (v .shown _ (u .shown h k));
+      shown = λ h k.
+          rw (row-after y (r .j) (g .width) (r .i) (pastX g r - r .i) (pastZ g r) h l) (v .shown _ (u .shown h k));
     }
 
 pub fill-done : {R : List ℕ → List ℕ → Type 0} {g : Grid} {r : Region} {y : ℕ} {b₀ b : List ℕ} → y ≡ pastY g r
@@ -82,15 +86,17 @@ pub fill-sample : {R : List ℕ → List ℕ → Type 0} {g : Grid} {x y z : ℕ
 unfolding filled raiseRows
 fill-sample {R} {g} {x} {y} {z} h k u =
     record {
-      shown = λ l r. rw (part-one (g .width) x h, part-one (g .height) y k, add-sub-cancel-left x 1, add-sub-cancel-left y 1) (u .shown l r);
+      shown = λ l r.
+          rw (part-one (g .width) x h, part-one (g .height) y k)
+          (rw (add-sub-cancel-left x 1, add-sub-cancel-left y 1) (u .shown l r));
     }
 
 pub hidden-sample : (g : Grid) (x y z : ℕ) (l : List ℕ) → solid g ≡ true → x < g .width → y < g .height → z < g .depth
     → hidden g (region x y z 1) l ≡ leb (z + 1) (getD l (y * g .width + x) 0)
 unfolding hidden rowsHigh rowHigh
 hidden-sample g x y z l e h k d =
-    rw (e, part-one (g .width) x h, part-one (g .height) y k, part-one (g .depth) z d, add-sub-cancel-left x 1, add-sub-cancel-left y 1)
-    (and-nothing (leb (z + 1) (getD l (y * g .width + x) 0)))
+    rw (e, part-one (g .width) x h, part-one (g .height) y k, part-one (g .depth) z d)
+    (rw (add-sub-cancel-left x 1, add-sub-cancel-left y 1) (and-nothing (leb (z + 1) (getD l (y * g .width + x) 0))))
   where
     and-nothing : (b : Bool) → ((b && true) && true) ≡ b
     and-nothing true = refl

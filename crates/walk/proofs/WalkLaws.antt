@@ -24,7 +24,8 @@ module _ (isSolid : Bool) {ws : List ℕ} {grid : Grid} {most c : ℕ} {qs : Lis
     (f : Folds isSolid most ws grid (sidesIn isSolid) qs b b′ c)
     (h : Shown isSolid grid b (replicate (grid .width * grid .height) 0)) where
   all-drawn : (m : ℕ) → Accepted (tapeIn m ws)
-      → Draws (Shown isSolid grid) (fold (λ r s. visit (sides (gridIn grid isSolid)) (tapeIn m ws) (gridIn grid isSolid) r s) (children (gridIn grid isSolid) whole 64)) b b′ c
+      → let g = gridIn grid isSolid in
+      Draws (Shown isSolid grid) (fold (λ r s. visit (sides g) (tapeIn m ws) g r s) (children g whole 64)) b b′ c
   unfolding sides
   all-drawn m a = rw (tiles, kind isSolid grid e) (f .draws m a)
 

@@ -1,5 +1,5 @@
--- What a visit to a region, and to a list of regions, draws and counts: with words, on any number of slots on which they
--- are an accepted tape. Flat and solid differ in how a picture shows heights.
+-- What a visit to a region, and to a list of regions, draws and counts: with words, on any number of slots on which
+-- they are an accepted tape. Flat and solid differ in how a picture shows heights.
 use mathlib.Core.Path.{_≡_}
 use mathlib.Core.Bool.{Bool, true, false}
 use mathlib.Core.List.{List, _∷_}
@@ -28,13 +28,15 @@ Shown true grid = Same
 Shown false grid = Shows (grid .width) (grid .height)
 
 -- One region; ns are the sides below its own. At most `most` runs of the words are counted.
-pub record Visits (isSolid : Bool) (most : ℕ) (ws : List ℕ) (grid : Grid) (ns : List ℕ) (r : Region) (b b′ : List ℕ) (c : ℕ) : Type 0 where
+pub record Visits (isSolid : Bool) (most : ℕ) (ws : List ℕ) (grid : Grid) (ns : List ℕ) (r : Region) (b b′ : List ℕ)
+    (c : ℕ) : Type 0 where
   pub draws : (m : ℕ) → Accepted (tapeIn m ws)
       → Draws (Shown isSolid grid) (visit ns (tapeIn m ws) (gridIn grid isSolid) r) b b′ c
   pub bound : c ≤ most * length ws
 
 -- A list of regions.
-pub record Folds (isSolid : Bool) (most : ℕ) (ws : List ℕ) (grid : Grid) (ns : List ℕ) (qs : List Region) (b b′ : List ℕ) (c : ℕ) : Type 0 where
+pub record Folds (isSolid : Bool) (most : ℕ) (ws : List ℕ) (grid : Grid) (ns : List ℕ) (qs : List Region)
+    (b b′ : List ℕ) (c : ℕ) : Type 0 where
   pub draws : (m : ℕ) → Accepted (tapeIn m ws)
       → Draws (Shown isSolid grid) (fold (λ q s. visit ns (tapeIn m ws) (gridIn grid isSolid) q s) qs) b b′ c
   pub bound : c ≤ most * length ws
@@ -46,7 +48,8 @@ pub record Finished (isSolid : Bool) (ws : List ℕ) (grid : Grid) (r : Region) 
   pub bound : c ≤ length ws
 
 -- A region that is seen and cut, before its children; the words from start on are its short tape's.
-pub record Opened (isSolid : Bool) (ws : List ℕ) (grid : Grid) (r : Region) (b b′ next : List ℕ) (start : ℕ) : Type 0 where
+pub record Opened (isSolid : Bool) (ws : List ℕ) (grid : Grid) (r : Region) (b b′ next : List ℕ)
+    (start : ℕ) : Type 0 where
   pub same : b′ ≡ b
   pub seen : Hidden (Shown isSolid grid) (gridIn grid isSolid) r b false
   pub cut : IsCut ws (boxOf (gridIn grid isSolid) r) next start

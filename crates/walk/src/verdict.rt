@@ -17,7 +17,8 @@ pub fn cell_range(code: &[u64], grid: Grid, c: Cell, choices: &mut [u8]) -> Span
     requires { ⌜ Runnable (now code) ⌝ }
     requires { ⌜ SpansIn grid c ⌝ }
     requires { ⌜ length (now code) ≤ length (now choices) ⌝ }
-    ensures { λ r. ⌜ Bounded (now (code .entry)) (boxAt grid c) (now (choices .entry)) (now (choices .exit)) (rangeIn r) ⌝ }
+    ensures { λ r. ⌜ Bounded (now (code .entry)) (boxAt grid c) (now (choices .entry)) (now (choices .exit))
+        (rangeIn r) ⌝ }
 {
     run_ranges(code, bounds(grid, c), choices)
 }

@@ -105,13 +105,14 @@ same-length-8 c = search needs
 returns-4 : tie.Need-returns-4
 returns-4 c =
     let shortened = c .before .before in
+    let w = shortened .shorten in
     let told = shortened .before .before .before in
     let v = told .before .before in
     let j = ranged v in
     let u = unhidden j in
     let p = start u .pre .1 in
     opened true (p .1 .0) (p .0 .fault) (seen u) (j .cell-range .ensures)
-    (mixed-of _ (v .verdict-on .ensures) (told .enum-told3 .given .1)) (shortened .shorten .ensures) (shortened .shorten .kept .1 .1 .0)
+    (mixed-of _ (v .verdict-on .ensures) (told .enum-told3 .given .1)) (w .ensures) (w .kept .1 .1 .0)
 
 pub look-spec : {M : Type 1} → statement M
 look-spec =

@@ -13,7 +13,8 @@ use Rattle.picture.proofs.GridWords.{InWords, in-words}
 use Rattle.walk.proofs.Signs.{sign}
 use Rattle.walk.proofs.CellLaws.{small, z-value}
 use Rattle.walk.proofs.LookLaws.{sound-runs}
-use Rattle.solid_tiles.proofs.SampleLaws.{at-words, pixel-most, pixel-in, x-value, y-value, sample-same, sample-ok, sample-hidden}
+use Rattle.solid_tiles.proofs.SampleLaws.{at-words, pixel-most, pixel-in, x-value}
+use Rattle.solid_tiles.proofs.SampleLaws.{y-value, sample-same, sample-ok, sample-hidden}
 use Rattle.solid_tiles.proofs.SampleLaws.{sample-skips, sample-fills}
 use borrow.Author.Needs.{needs}
 use Rattle.solid_tiles.proofs.samples.visit_sample.Statement.{statement}

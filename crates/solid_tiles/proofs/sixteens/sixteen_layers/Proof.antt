@@ -76,8 +76,13 @@ sixteen-rows-requires c κs =
     let i = at-test t .loop .inv in
     let s = start (at-test t) in
     let p = s .pre .1 .1 in
-    let again = ready-again (s .pre .1 .0) (i .0 .place .size) in
-    (s .pre .0, (again, (p .0, ((p .1 .0, down-in (i .0 .place) (t .if1 .taken) .1), (omega arith, omega arith, omega arith)))))
+    let again = ready-again (s .pre .1 .0) (i .0 .place .size) in (
+      s .pre .0,
+      (
+        again,
+        (p .0, ((p .1 .0, down-in (i .0 .place) (t .if1 .taken) .1), (omega arith, omega arith, omega arith))),
+      ),
+    )
 
 add-count : tie.Need-add-count Inv-loop μ-loop
 add-count c =
