@@ -10,10 +10,10 @@ use Rattle.code.specs.Words.{tapeIn}
 use Rattle.code.proofs.WordTapes.{length-clauses}
 use Rattle.picture.specs.Bits.{Shows}
 use Rattle.picture.specs.declared.grid.Grid.{Grid}
-use Rattle.drawing.specs.Draws.{Draws, Fills}
-use Rattle.drawing.specs.Verdicts.{IsFull, IsEmpty}
-use Rattle.drawing.proofs.Draws.{draws-count, seen-flat, draws-full, draws-empty, draws-cut}
-use Rattle.drawing.proofs.Children.{children-rows}
+use Rattle.walk.specs.Draws.{Draws, Fills}
+use Rattle.flat_tiles.specs.Verdicts.{IsFull, IsEmpty}
+use Rattle.walk.proofs.Draws.{draws-count, seen-flat, draws-full, draws-empty, draws-cut}
+use Rattle.walk.proofs.Children.{children-rows}
 use Rattle.flat_tiles.specs.Flats.{flatIn, visits, Drawn, Open}
 use Rattle.flat_tiles.proofs.Words.{fit, lent-part, cut-accepted}
 

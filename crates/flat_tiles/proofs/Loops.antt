@@ -8,8 +8,8 @@ use Rattle.rules.specs.Accepted.{Accepted}
 use Rattle.code.specs.Words.{tapeIn}
 use Rattle.picture.specs.Bits.{Shows}
 use Rattle.picture.specs.declared.grid.Grid.{Grid}
-use Rattle.drawing.proofs.Draws.{Rest, rest-from, rest-one, rest-list, rest-done}
-use Rattle.drawing.proofs.Children.{rowLeft, rowsLeft}
+use Rattle.walk.proofs.Draws.{Rest, rest-from, rest-one, rest-list, rest-done}
+use Rattle.walk.proofs.Children.{rowLeft, rowsLeft}
 use Rattle.flat_tiles.specs.Flats.{flatIn, visits, Drawn}
 
 -- Of the regions `all` those in `left` are still to be visited.

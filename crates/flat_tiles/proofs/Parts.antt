@@ -9,8 +9,8 @@ use Rattle.rules.specs.Drawings.{lesser}
 use Rattle.picture.specs.Bits.{Within}
 use Rattle.picture.specs.declared.grid.Grid.{Grid}
 use Rattle.picture.proofs.BitShows.{rows-in}
-use Rattle.drawing.specs.Verdicts.{IsCut}
-use Rattle.drawing.proofs.Children.{part}
+use Rattle.flat_tiles.specs.Verdicts.{IsCut}
+use Rattle.walk.proofs.Children.{part}
 use Rattle.flat_tiles.specs.Flats.{Given, Block, Begins}
 use Rattle.flat_tiles.proofs.Words.{lent-part, cut-sound, cut-fewer}
 

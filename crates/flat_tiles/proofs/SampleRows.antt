@@ -15,8 +15,8 @@ use Rattle.code.specs.Words.{tapeIn}
 use Rattle.code.proofs.WordTapes.{length-clauses}
 use Rattle.picture.specs.Bits.{rowByteFrom, rowByte, markRow, Shows}
 use Rattle.picture.specs.declared.grid.Grid.{Grid}
-use Rattle.drawing.proofs.Children.{part-one, rowLeft, row-start, row-step, row-end}
-use Rattle.drawing.proofs.Draws.{draws-same}
+use Rattle.walk.proofs.Children.{part-one, rowLeft, row-start, row-step, row-end}
+use Rattle.walk.proofs.Draws.{draws-same}
 use Rattle.flat_tiles.specs.Flats.{flatIn, Block, materials, visits, Drawn}
 
 module _ (t : Tape) (g : D.Grid) (y : ℕ) where

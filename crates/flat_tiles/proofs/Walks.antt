@@ -16,10 +16,10 @@ use Rattle.picture.specs.Bits.{Shows}
 use Rattle.picture.specs.declared.grid.Grid.{Grid}
 use Rattle.picture.proofs.Grids.{accepted}
 use Rattle.picture.proofs.BitShows.{blank-shows, shows-packed}
-use Rattle.drawing.specs.Draws.{Draws}
-use Rattle.drawing.specs.Verdicts.{Sound}
-use Rattle.drawing.proofs.Draws.{draws-walked}
-use Rattle.drawing.proofs.Children.{tiles-flat}
+use Rattle.walk.specs.Draws.{Draws}
+use Rattle.walk.specs.Walks.{Sound}
+use Rattle.walk.proofs.Draws.{draws-walked}
+use Rattle.walk.proofs.Children.{tiles-flat}
 use Rattle.flat_tiles.specs.Flats.{flatIn, Good, visits, Drawn, Walked}
 
 pub few-words : {ws : List ℕ} → Sound ws → length ws ≤ clauseLimit

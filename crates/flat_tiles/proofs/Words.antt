@@ -12,7 +12,8 @@ use Rattle.rules.proofs.ShortAccepted.{short-accepted}
 use Rattle.code.specs.Words.{tapeIn, Runnable}
 use Rattle.code.specs.Runs.{Fit}
 use Rattle.code.proofs.WordTapes.{words-run, words-runnable, length-clauses}
-use Rattle.drawing.specs.Verdicts.{Sound, IsCut}
+use Rattle.walk.specs.Walks.{Sound}
+use Rattle.flat_tiles.specs.Verdicts.{IsCut}
 
 pub runnable : {ws : List ℕ} → Sound ws → Runnable ws
 runnable {ws} s = words-runnable (s .slots) ws (s .accepted)

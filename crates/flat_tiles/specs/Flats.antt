@@ -12,10 +12,11 @@ use Rattle.code.specs.Words.{tapeIn}
 use Rattle.picture.specs.Bits.{Shows}
 use Rattle.picture.specs.Shapes.{gridIn}
 use Rattle.picture.specs.declared.grid.Grid.{Grid}
-use Rattle.drawing.specs.Draws.{Draws}
-use Rattle.drawing.specs.Verdicts.{Sound, IsCut}
-use Rattle.drawing.specs.declared.verdict.Verdict.{Verdict}
-use Rattle.drawing.specs.declared.verdict.Verdict.the-variants.{Full, Empty, Cut}
+use Rattle.walk.specs.Draws.{Draws}
+use Rattle.walk.specs.Walks.{Sound}
+use Rattle.flat_tiles.specs.Verdicts.{IsCut}
+use Rattle.flat_tiles.specs.declared.verdict.Verdict.{Verdict}
+use Rattle.flat_tiles.specs.declared.verdict.Verdict.the-variants.{Full, Empty, Cut}
 
 abbrev pub flatIn : Grid → D.Grid
 flatIn grid = gridIn grid false

@@ -1,2 +1,3 @@
 -- What the functions of the flat drawing by tiles are held to.
 pub mod Flats
+pub mod Verdicts

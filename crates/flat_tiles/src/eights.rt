@@ -2,7 +2,7 @@
 use crate::look::look;
 use crate::region::lesser;
 use crate::samples::sample_rows;
-use drawing::verdict::Verdict;
+use crate::verdict::Verdict;
 use picture::grid::Grid;
 ghost use mathlib.Core.List.{[], _∷_};
 ghost use Prim.Native.Nat.{_+_, _≤_};

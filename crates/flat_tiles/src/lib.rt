@@ -4,3 +4,4 @@ pub mod look;
 pub mod region;
 pub mod samples;
 pub mod tiles;
+pub mod verdict;

@@ -1,7 +1,7 @@
 // What the sides 64 and 8 share: a region run over ranges, and filled where there is material everywhere.
 use crate::region::bounds;
-use drawing::verdict::Verdict;
-use drawing::verdict::judge;
+use crate::verdict::Verdict;
+use crate::verdict::judge;
 use picture::bits::fill_rect;
 use picture::grid::Grid;
 ghost use mathlib.Core.Path.{_≡_};

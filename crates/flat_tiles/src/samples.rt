@@ -11,7 +11,7 @@ ghost use Rattle.rules.specs.Drawings.{alongX, alongY};
 ghost use Rattle.rules.specs.Accepted.{Accepted};
 ghost use Rattle.code.specs.Words.{tapeIn};
 ghost use Rattle.picture.specs.Bits.{rowByte};
-ghost use Rattle.drawing.specs.Verdicts.{Sound};
+ghost use Rattle.walk.specs.Walks.{Sound};
 ghost use Rattle.flat_tiles.specs.Flats.{flatIn, Good, Given, Part, Block, materials, visits, Drawn};
 
 // The samples x to xend of row y, the first in the highest bit: 1 is material.

@@ -2,7 +2,7 @@
 use crate::eights::eight_rows;
 use crate::look::look;
 use crate::region::lesser;
-use drawing::verdict::Verdict;
+use crate::verdict::Verdict;
 use picture::bits::clear;
 use picture::grid::Grid;
 ghost use mathlib.Core.Path.{_≡_};
@@ -12,7 +12,7 @@ ghost use Prim.Native.Nat.{_+_, _*_, _≤_};
 ghost use lib.ListN.{length};
 ghost use Rattle.rules.specs.Drawings.{gridFault, region, visit, alongX, alongY};
 ghost use Rattle.rules.specs.Pictures.{stride};
-ghost use Rattle.drawing.specs.Verdicts.{Sound};
+ghost use Rattle.walk.specs.Walks.{Sound};
 ghost use Rattle.flat_tiles.specs.Flats.{flatIn, Given, Begins, visits, Drawn, Walked};
 
 // One tile, with the whole tape; its short tape goes to `first`, those of its regions of side 8 to `second`.

@@ -15,7 +15,7 @@ use Rattle.code.specs.Words.{tapeIn}
 use Rattle.code.proofs.WordTapes.{unpacked-tape}
 use Rattle.picture.specs.Shapes.{gridIn}
 use Rattle.picture.specs.declared.grid.Grid.{Grid}
-use Rattle.drawing.specs.Verdicts.{Sound}
+use Rattle.walk.specs.Walks.{Sound}
 use Rattle.layers.specs.declared.Answer.{Answer}
 use Rattle.layers.specs.declared.refusal.Prepared.{Prepared}
 use Rattle.layers.specs.Says.{drawFault, tileFault, Prepares, TilesSay}
@@ -27,14 +27,10 @@ pub record Walks (isSolid : Bool) (ws : List ℕ) (g : D.Grid) (o : List ℕ) (c
   pub pixels : (n : ℕ) → Accepted (tapeIn n ws) → o ≡ picture isSolid g (D.walked (tapeIn n ws) g .heights)
   pub count : (n : ℕ) → Accepted (tapeIn n ws) → c ≡ D.walked (tapeIn n ws) g .clauses
 
--- A flat picture's bytes, a solid's heights.
+-- A flat picture's bytes.
 pub flat-picture : (g : D.Grid) (h : List ℕ) → bitsOf (g .width) (g .height) h ≡ picture false g h
 unfolding picture
 flat-picture g h = refl
-
-pub solid-picture : (g : D.Grid) (h : List ℕ) → h ≡ picture true g h
-unfolding picture
-solid-picture g h = refl
 
 -- The words are those of an accepted tape.
 pub sound : {t : Bool} {s ws ws′ : List ℕ} {g : D.Grid} {n : ℕ} {q : Prepared} → Prepares t s g n ws ws′ q → q .number ≡ 0

@@ -1,3 +1,2 @@
--- What the functions of the solid drawing by tiles are held to.
-pub mod Cells
-pub mod Walks
+-- What the functions of the solid drawing by tiles are held to, besides the walk's.
+pub mod Sides

@@ -1,17 +1,18 @@
 // Side 4: the regions of side 4 in one of side 16.
-use crate::cell::Cell;
-use crate::cell::cell_at;
-use crate::look::Seen;
 use crate::look::look;
 use crate::samples::sample_layers;
 use picture::grid::Grid;
+use walk::cell::Cell;
+use walk::cell::cell_at;
+use walk::look::Seen;
 ghost use mathlib.Core.Path.{_≡_};
+ghost use mathlib.Core.Bool.{true};
 ghost use Prim.Native.Nat.{_*_, _<_, _≤_};
 ghost use lib.ListN.{length};
 ghost use Rattle.rules.specs.Drawings.{region, alongX, alongY, alongZ};
-ghost use Rattle.drawing.specs.Verdicts.{Sound};
-ghost use Rattle.solid_tiles.specs.Cells.{Ready, InGrid, CellOk};
-ghost use Rattle.solid_tiles.specs.Walks.{below4, Visits, Folds};
+ghost use Rattle.walk.specs.Cells.{Ready, InGrid, CellOk};
+ghost use Rattle.walk.specs.Walks.{Sound, Visits, Folds};
+ghost use Rattle.solid_tiles.specs.Sides.{below4};
 
 // At most 65 runs: the region and 64 samples.
 fn visit_four(
@@ -25,12 +26,13 @@ fn visit_four(
     third: &mut [u64],
 ) -> u64
     requires { ⌜ Sound (now code) ⌝ }
-    requires { ⌜ Ready grid (now picture) ⌝ }
-    requires { ⌜ InGrid grid x y z ⌝ }
-    requires { ⌜ (1024 ≤ length (now choices)) × (1024 ≤ length (now third)) ⌝ }
-    ensures { λ r. ⌜ Visits (65 * 1024) (now (code .entry)) grid below4 (region x y z 4) (now (picture .entry)) (now (picture .exit)) r ⌝ }
+    requires { ⌜ Ready true grid (now picture) ⌝ }
+    requires { ⌜ InGrid (grid .depth) grid x y z ⌝ }
+    requires { ⌜ (length (now code) ≤ length (now choices)) × (length (now code) ≤ length (now third)) ⌝ }
+    ensures { λ r. ⌜ Visits true 65 (now (code .entry)) grid below4 (region x y z 4)
+        (now (picture .entry)) (now (picture .exit)) r ⌝ }
 {
-    let cell = cell_at(grid, x, y, z, 4);
+    let cell = cell_at(grid, grid.depth, x, y, z, 4);
     let seen = look(code, grid, cell, picture, choices, third);
     match seen {
         Seen::Done(count) => count,
@@ -53,11 +55,12 @@ fn four_row(
     third: &mut [u64],
 ) -> u64
     requires { ⌜ Sound (now code) ⌝ }
-    requires { ⌜ Ready grid (now picture) ⌝ }
-    requires { ⌜ CellOk grid parent ⌝ }
+    requires { ⌜ Ready true grid (now picture) ⌝ }
+    requires { ⌜ CellOk (grid .depth) grid parent ⌝ }
     requires { ⌜ (parent .side ≡ 16) × (y < parent .yend) × (z < parent .zend) ⌝ }
-    requires { ⌜ (1024 ≤ length (now choices)) × (1024 ≤ length (now third)) ⌝ }
-    ensures { λ r. ⌜ Folds (260 * 1024) (now (code .entry)) grid below4 (alongX 4 (parent .x) y z 4 (parent .xend)) (now (picture .entry)) (now (picture .exit)) r ⌝ }
+    requires { ⌜ (length (now code) ≤ length (now choices)) × (length (now code) ≤ length (now third)) ⌝ }
+    ensures { λ r. ⌜ Folds true (4 * 65) (now (code .entry)) grid below4
+        (alongX 4 (parent .x) y z 4 (parent .xend)) (now (picture .entry)) (now (picture .exit)) r ⌝ }
 {
     let mut count: u64 = 0;
     let mut x = parent.x;
@@ -78,11 +81,13 @@ fn four_rows(
     third: &mut [u64],
 ) -> u64
     requires { ⌜ Sound (now code) ⌝ }
-    requires { ⌜ Ready grid (now picture) ⌝ }
-    requires { ⌜ CellOk grid parent ⌝ }
+    requires { ⌜ Ready true grid (now picture) ⌝ }
+    requires { ⌜ CellOk (grid .depth) grid parent ⌝ }
     requires { ⌜ (parent .side ≡ 16) × (z < parent .zend) ⌝ }
-    requires { ⌜ (1024 ≤ length (now choices)) × (1024 ≤ length (now third)) ⌝ }
-    ensures { λ r. ⌜ Folds (1040 * 1024) (now (code .entry)) grid below4 (alongY 4 4 (parent .x) (parent .y) z 4 (parent .xend) (parent .yend)) (now (picture .entry)) (now (picture .exit)) r ⌝ }
+    requires { ⌜ (length (now code) ≤ length (now choices)) × (length (now code) ≤ length (now third)) ⌝ }
+    ensures { λ r. ⌜ Folds true (16 * 65) (now (code .entry)) grid below4
+        (alongY 4 4 (parent .x) (parent .y) z 4 (parent .xend) (parent .yend))
+        (now (picture .entry)) (now (picture .exit)) r ⌝ }
 {
     let mut count: u64 = 0;
     let mut y = parent.y;
@@ -102,11 +107,13 @@ pub fn four_layers(
     third: &mut [u64],
 ) -> u64
     requires { ⌜ Sound (now code) ⌝ }
-    requires { ⌜ Ready grid (now picture) ⌝ }
-    requires { ⌜ CellOk grid parent ⌝ }
+    requires { ⌜ Ready true grid (now picture) ⌝ }
+    requires { ⌜ CellOk (grid .depth) grid parent ⌝ }
     requires { ⌜ parent .side ≡ 16 ⌝ }
-    requires { ⌜ (1024 ≤ length (now choices)) × (1024 ≤ length (now third)) ⌝ }
-    ensures { λ r. ⌜ Folds (4160 * 1024) (now (code .entry)) grid below4 (alongZ 4 4 (parent .x) (parent .y) (parent .z) 4 (parent .xend) (parent .yend) (parent .zend)) (now (picture .entry)) (now (picture .exit)) r ⌝ }
+    requires { ⌜ (length (now code) ≤ length (now choices)) × (length (now code) ≤ length (now third)) ⌝ }
+    ensures { λ r. ⌜ Folds true (64 * 65) (now (code .entry)) grid below4
+        (alongZ 4 4 (parent .x) (parent .y) (parent .z) 4 (parent .xend) (parent .yend) (parent .zend))
+        (now (picture .entry)) (now (picture .exit)) r ⌝ }
 {
     let mut count: u64 = 0;
     let mut z = parent.z + (parent.zend - parent.z + 3) / 4 * 4;

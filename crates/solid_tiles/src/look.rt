@@ -1,22 +1,18 @@
-// The part of a visit that every side but 1 shares: the test whether a region is hidden, its verdict, and its filling.
-use crate::cell::Cell;
-use crate::cell::bounds;
+// The part of a visit that every side but 1 shares: the test whether a region is hidden, its range, and its filling.
 use crate::cell::fill;
 use crate::cell::is_hidden;
-use drawing::verdict::Verdict;
-use drawing::verdict::judge;
+use code::shorten::shorten;
 use picture::grid::Grid;
+use walk::cell::Cell;
+use walk::look::Seen;
+use walk::verdict::Verdict;
+use walk::verdict::cell_range;
+use walk::verdict::verdict_on;
+ghost use mathlib.Core.Bool.{true};
 ghost use Prim.Native.Nat.{_≤_};
 ghost use lib.ListN.{length};
-ghost use Rattle.drawing.specs.Verdicts.{Sound};
-ghost use Rattle.solid_tiles.specs.Cells.{Ready, CellOk, regionIn};
-ghost use Rattle.solid_tiles.specs.Walks.{Looked};
-
-// Ended, with the clauses counted; or the short tape's words start there, and the children are to be visited.
-pub enum Seen {
-    Done(u64),
-    Open(usize),
-}
+ghost use Rattle.walk.specs.Cells.{Ready, CellOk, regionIn};
+ghost use Rattle.walk.specs.Walks.{Sound, Looked};
 
 pub fn look(
     code: &[u64],
@@ -27,21 +23,22 @@ pub fn look(
     next: &mut [u64],
 ) -> Seen
     requires { ⌜ Sound (now code) ⌝ }
-    requires { ⌜ Ready grid (now picture) ⌝ }
-    requires { ⌜ CellOk grid c ⌝ }
-    requires { ⌜ (1024 ≤ length (now choices)) × (1024 ≤ length (now next)) ⌝ }
-    ensures { λ r. ⌜ Looked (now (code .entry)) grid (regionIn c) (now (picture .entry)) (now (picture .exit)) (now (next .exit)) r ⌝ }
+    requires { ⌜ Ready true grid (now picture) ⌝ }
+    requires { ⌜ CellOk (grid .depth) grid c ⌝ }
+    requires { ⌜ (length (now code) ≤ length (now choices)) × (length (now code) ≤ length (now next)) ⌝ }
+    ensures { λ r. ⌜ Looked true (now (code .entry)) grid (regionIn c) (now (picture .entry)) (now (picture .exit))
+        (now (next .exit)) r ⌝ }
 {
     if is_hidden(grid, c, picture) {
         return Seen::Done(0);
     }
-    let verdict = judge(code, bounds(grid, c), choices, next);
-    match verdict {
+    let range = cell_range(code, grid, c, choices);
+    match verdict_on(range) {
         Verdict::Full => {
             fill(grid, c, picture);
             Seen::Done(code.len() as u64)
         }
         Verdict::Empty => Seen::Done(code.len() as u64),
-        Verdict::Cut(start) => Seen::Open(start),
+        Verdict::Mixed => Seen::Open(shorten(code, choices, next)),
     }
 }

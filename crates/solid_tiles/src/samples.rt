@@ -1,22 +1,23 @@
 // Side 1: the samples of a region of side 4, run on values with that region's short tape.
-use crate::cell::Cell;
 use code::run::run_values;
 use fixed::clause::Sample;
 use picture::grid::Grid;
 use picture::grid::sample;
+use walk::cell::Cell;
 ghost use mathlib.Core.Path.{_≡_};
+ghost use mathlib.Core.Bool.{true};
 ghost use mathlib.Core.List.{[]};
 ghost use Prim.Native.Nat.{_*_, _<_};
 ghost use Rattle.rules.specs.Drawings.{region, alongX, alongY, alongZ};
-ghost use Rattle.drawing.specs.Verdicts.{Sound};
-ghost use Rattle.solid_tiles.specs.Cells.{Ready, InGrid, CellOk};
-ghost use Rattle.solid_tiles.specs.Walks.{Visits, Folds};
+ghost use Rattle.walk.specs.Cells.{Ready, InGrid, CellOk};
+ghost use Rattle.walk.specs.Walks.{Sound, Visits, Folds};
 
 fn visit_sample(code: &[u64], grid: Grid, x: u32, y: u32, z: u32, picture: &mut [u16]) -> u64
     requires { ⌜ Sound (now code) ⌝ }
-    requires { ⌜ Ready grid (now picture) ⌝ }
-    requires { ⌜ InGrid grid x y z ⌝ }
-    ensures { λ r. ⌜ Visits 1024 (now (code .entry)) grid [] (region x y z 1) (now (picture .entry)) (now (picture .exit)) r ⌝ }
+    requires { ⌜ Ready true grid (now picture) ⌝ }
+    requires { ⌜ InGrid (grid .depth) grid x y z ⌝ }
+    ensures { λ r. ⌜ Visits true 1 (now (code .entry)) grid [] (region x y z 1)
+        (now (picture .entry)) (now (picture .exit)) r ⌝ }
 {
     let at = (y * grid.width + x) as usize;
     let height = (z + 1) as u16;
@@ -40,10 +41,11 @@ fn visit_sample(code: &[u64], grid: Grid, x: u32, y: u32, z: u32, picture: &mut 
 // One row of samples of the parent. Several at once can stand behind this contract.
 fn sample_row(code: &[u64], grid: Grid, parent: Cell, y: u32, z: u32, picture: &mut [u16]) -> u64
     requires { ⌜ Sound (now code) ⌝ }
-    requires { ⌜ Ready grid (now picture) ⌝ }
-    requires { ⌜ CellOk grid parent ⌝ }
+    requires { ⌜ Ready true grid (now picture) ⌝ }
+    requires { ⌜ CellOk (grid .depth) grid parent ⌝ }
     requires { ⌜ (parent .side ≡ 4) × (y < parent .yend) × (z < parent .zend) ⌝ }
-    ensures { λ r. ⌜ Folds (4 * 1024) (now (code .entry)) grid [] (alongX 4 (parent .x) y z 1 (parent .xend)) (now (picture .entry)) (now (picture .exit)) r ⌝ }
+    ensures { λ r. ⌜ Folds true 4 (now (code .entry)) grid [] (alongX 4 (parent .x) y z 1 (parent .xend))
+        (now (picture .entry)) (now (picture .exit)) r ⌝ }
 {
     let mut count: u64 = 0;
     let mut x = parent.x;
@@ -56,10 +58,12 @@ fn sample_row(code: &[u64], grid: Grid, parent: Cell, y: u32, z: u32, picture: &
 
 fn sample_rows(code: &[u64], grid: Grid, parent: Cell, z: u32, picture: &mut [u16]) -> u64
     requires { ⌜ Sound (now code) ⌝ }
-    requires { ⌜ Ready grid (now picture) ⌝ }
-    requires { ⌜ CellOk grid parent ⌝ }
+    requires { ⌜ Ready true grid (now picture) ⌝ }
+    requires { ⌜ CellOk (grid .depth) grid parent ⌝ }
     requires { ⌜ (parent .side ≡ 4) × (z < parent .zend) ⌝ }
-    ensures { λ r. ⌜ Folds (16 * 1024) (now (code .entry)) grid [] (alongY 4 4 (parent .x) (parent .y) z 1 (parent .xend) (parent .yend)) (now (picture .entry)) (now (picture .exit)) r ⌝ }
+    ensures { λ r. ⌜ Folds true 16 (now (code .entry)) grid []
+        (alongY 4 4 (parent .x) (parent .y) z 1 (parent .xend) (parent .yend))
+        (now (picture .entry)) (now (picture .exit)) r ⌝ }
 {
     let mut count: u64 = 0;
     let mut y = parent.y;
@@ -72,10 +76,12 @@ fn sample_rows(code: &[u64], grid: Grid, parent: Cell, z: u32, picture: &mut [u1
 
 pub fn sample_layers(code: &[u64], grid: Grid, parent: Cell, picture: &mut [u16]) -> u64
     requires { ⌜ Sound (now code) ⌝ }
-    requires { ⌜ Ready grid (now picture) ⌝ }
-    requires { ⌜ CellOk grid parent ⌝ }
+    requires { ⌜ Ready true grid (now picture) ⌝ }
+    requires { ⌜ CellOk (grid .depth) grid parent ⌝ }
     requires { ⌜ parent .side ≡ 4 ⌝ }
-    ensures { λ r. ⌜ Folds (64 * 1024) (now (code .entry)) grid [] (alongZ 4 4 (parent .x) (parent .y) (parent .z) 1 (parent .xend) (parent .yend) (parent .zend)) (now (picture .entry)) (now (picture .exit)) r ⌝ }
+    ensures { λ r. ⌜ Folds true 64 (now (code .entry)) grid []
+        (alongZ 4 4 (parent .x) (parent .y) (parent .z) 1 (parent .xend) (parent .yend) (parent .zend))
+        (now (picture .entry)) (now (picture .exit)) r ⌝ }
 {
     let mut count: u64 = 0;
     let mut z = parent.zend;

@@ -1,17 +1,18 @@
 // Side 16: the regions of side 16 in a tile.
-use crate::cell::Cell;
-use crate::cell::cell_at;
 use crate::fours::four_layers;
-use crate::look::Seen;
 use crate::look::look;
 use picture::grid::Grid;
+use walk::cell::Cell;
+use walk::cell::cell_at;
+use walk::look::Seen;
 ghost use mathlib.Core.Path.{_≡_};
+ghost use mathlib.Core.Bool.{true};
 ghost use Prim.Native.Nat.{_*_, _<_, _≤_};
 ghost use lib.ListN.{length};
 ghost use Rattle.rules.specs.Drawings.{region, alongX, alongY, alongZ};
-ghost use Rattle.drawing.specs.Verdicts.{Sound};
-ghost use Rattle.solid_tiles.specs.Cells.{Ready, InGrid, CellOk};
-ghost use Rattle.solid_tiles.specs.Walks.{below16, Visits, Folds};
+ghost use Rattle.walk.specs.Cells.{Ready, InGrid, CellOk};
+ghost use Rattle.walk.specs.Walks.{Sound, Visits, Folds};
+ghost use Rattle.solid_tiles.specs.Sides.{below16};
 
 // At most 4,161 runs: the region, 64 of side 4 and 4,096 samples.
 fn visit_sixteen(
@@ -26,12 +27,14 @@ fn visit_sixteen(
     third: &mut [u64],
 ) -> u64
     requires { ⌜ Sound (now code) ⌝ }
-    requires { ⌜ Ready grid (now picture) ⌝ }
-    requires { ⌜ InGrid grid x y z ⌝ }
-    requires { ⌜ (1024 ≤ length (now choices)) × (1024 ≤ length (now second)) × (1024 ≤ length (now third)) ⌝ }
-    ensures { λ r. ⌜ Visits (4161 * 1024) (now (code .entry)) grid below16 (region x y z 16) (now (picture .entry)) (now (picture .exit)) r ⌝ }
+    requires { ⌜ Ready true grid (now picture) ⌝ }
+    requires { ⌜ InGrid (grid .depth) grid x y z ⌝ }
+    requires { ⌜ (length (now code) ≤ length (now choices)) × (length (now code) ≤ length (now second))
+        × (length (now code) ≤ length (now third)) ⌝ }
+    ensures { λ r. ⌜ Visits true 4161 (now (code .entry)) grid below16 (region x y z 16)
+        (now (picture .entry)) (now (picture .exit)) r ⌝ }
 {
-    let cell = cell_at(grid, x, y, z, 16);
+    let cell = cell_at(grid, grid.depth, x, y, z, 16);
     let seen = look(code, grid, cell, picture, choices, second);
     match seen {
         Seen::Done(count) => count,
@@ -55,11 +58,13 @@ fn sixteen_row(
     third: &mut [u64],
 ) -> u64
     requires { ⌜ Sound (now code) ⌝ }
-    requires { ⌜ Ready grid (now picture) ⌝ }
-    requires { ⌜ CellOk grid parent ⌝ }
+    requires { ⌜ Ready true grid (now picture) ⌝ }
+    requires { ⌜ CellOk (grid .depth) grid parent ⌝ }
     requires { ⌜ (parent .side ≡ 64) × (y < parent .yend) × (z < parent .zend) ⌝ }
-    requires { ⌜ (1024 ≤ length (now choices)) × (1024 ≤ length (now second)) × (1024 ≤ length (now third)) ⌝ }
-    ensures { λ r. ⌜ Folds (16644 * 1024) (now (code .entry)) grid below16 (alongX 4 (parent .x) y z 16 (parent .xend)) (now (picture .entry)) (now (picture .exit)) r ⌝ }
+    requires { ⌜ (length (now code) ≤ length (now choices)) × (length (now code) ≤ length (now second))
+        × (length (now code) ≤ length (now third)) ⌝ }
+    ensures { λ r. ⌜ Folds true (4 * 4161) (now (code .entry)) grid below16
+        (alongX 4 (parent .x) y z 16 (parent .xend)) (now (picture .entry)) (now (picture .exit)) r ⌝ }
 {
     let mut count: u64 = 0;
     let mut x = parent.x;
@@ -81,11 +86,14 @@ fn sixteen_rows(
     third: &mut [u64],
 ) -> u64
     requires { ⌜ Sound (now code) ⌝ }
-    requires { ⌜ Ready grid (now picture) ⌝ }
-    requires { ⌜ CellOk grid parent ⌝ }
+    requires { ⌜ Ready true grid (now picture) ⌝ }
+    requires { ⌜ CellOk (grid .depth) grid parent ⌝ }
     requires { ⌜ (parent .side ≡ 64) × (z < parent .zend) ⌝ }
-    requires { ⌜ (1024 ≤ length (now choices)) × (1024 ≤ length (now second)) × (1024 ≤ length (now third)) ⌝ }
-    ensures { λ r. ⌜ Folds (66576 * 1024) (now (code .entry)) grid below16 (alongY 4 4 (parent .x) (parent .y) z 16 (parent .xend) (parent .yend)) (now (picture .entry)) (now (picture .exit)) r ⌝ }
+    requires { ⌜ (length (now code) ≤ length (now choices)) × (length (now code) ≤ length (now second))
+        × (length (now code) ≤ length (now third)) ⌝ }
+    ensures { λ r. ⌜ Folds true (16 * 4161) (now (code .entry)) grid below16
+        (alongY 4 4 (parent .x) (parent .y) z 16 (parent .xend) (parent .yend))
+        (now (picture .entry)) (now (picture .exit)) r ⌝ }
 {
     let mut count: u64 = 0;
     let mut y = parent.y;
@@ -106,11 +114,14 @@ pub fn sixteen_layers(
     third: &mut [u64],
 ) -> u64
     requires { ⌜ Sound (now code) ⌝ }
-    requires { ⌜ Ready grid (now picture) ⌝ }
-    requires { ⌜ CellOk grid parent ⌝ }
+    requires { ⌜ Ready true grid (now picture) ⌝ }
+    requires { ⌜ CellOk (grid .depth) grid parent ⌝ }
     requires { ⌜ parent .side ≡ 64 ⌝ }
-    requires { ⌜ (1024 ≤ length (now choices)) × (1024 ≤ length (now second)) × (1024 ≤ length (now third)) ⌝ }
-    ensures { λ r. ⌜ Folds (266304 * 1024) (now (code .entry)) grid below16 (alongZ 4 4 (parent .x) (parent .y) (parent .z) 16 (parent .xend) (parent .yend) (parent .zend)) (now (picture .entry)) (now (picture .exit)) r ⌝ }
+    requires { ⌜ (length (now code) ≤ length (now choices)) × (length (now code) ≤ length (now second))
+        × (length (now code) ≤ length (now third)) ⌝ }
+    ensures { λ r. ⌜ Folds true (64 * 4161) (now (code .entry)) grid below16
+        (alongZ 4 4 (parent .x) (parent .y) (parent .z) 16 (parent .xend) (parent .yend) (parent .zend))
+        (now (picture .entry)) (now (picture .exit)) r ⌝ }
 {
     let mut count: u64 = 0;
     let mut z = parent.z + (parent.zend - parent.z + 15) / 16 * 16;

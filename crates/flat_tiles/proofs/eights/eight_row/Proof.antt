@@ -4,7 +4,7 @@ use mathlib.Core.List.{[], _∷_}
 use Prim.Native.Nat.{_-_}
 use native.Mathlib.Omega.{arith}
 use lib.ListN.{length}
-use Rattle.drawing.proofs.Children.{row-start, row-step, row-end}
+use Rattle.walk.proofs.Children.{row-start, row-step, row-end}
 use Rattle.flat_tiles.proofs.Parts.{given-on}
 use Rattle.flat_tiles.proofs.Loops.{RowPlace, left-start, left-one, left-done}
 use Rattle.flat_tiles.proofs.eights.eight_row.Statement.{statement}

@@ -4,7 +4,7 @@ use mathlib.Core.List.{[], _∷_}
 use Prim.Native.Nat.{_-_}
 use native.Mathlib.Omega.{arith}
 use lib.ListN.{length}
-use Rattle.drawing.proofs.Children.{rows-start, rows-step, rows-end}
+use Rattle.walk.proofs.Children.{rows-start, rows-step, rows-end}
 use Rattle.flat_tiles.proofs.Parts.{given-on}
 use Rattle.flat_tiles.proofs.Loops.{RowsPlace, left-start, left-list, left-done}
 use Rattle.flat_tiles.proofs.eights.eight_rows.Statement.{statement}

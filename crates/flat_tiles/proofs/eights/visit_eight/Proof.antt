@@ -3,7 +3,7 @@ use mathlib.Core.Path.{_≡_, subst}
 use mathlib.Core.List.{[]}
 use native.Mathlib.Omega.{arith}
 use Rattle.rules.specs.Drawings.{region}
-use Rattle.drawing.specs.declared.verdict.Verdict.{Verdict}
+use Rattle.flat_tiles.specs.declared.verdict.Verdict.{Verdict}
 use Rattle.flat_tiles.specs.Flats.{Block, Looked, Open}
 use Rattle.flat_tiles.proofs.Parts.{given-on, given-cut, ends, wider}
 use Rattle.flat_tiles.proofs.Levels.{level-cut}

@@ -3,8 +3,8 @@ use mathlib.Core.Path.{_≡_, refl, subst}
 use Prim.Native.Nat.{ℕ, _+_}
 use native.Mathlib.Omega.{arith}
 use Rattle.rules.specs.Drawings.{lesser, region, boxOf}
-use Rattle.drawing.specs.Verdicts.{Judged}
-use Rattle.drawing.specs.declared.verdict.Verdict.{Verdict}
+use Rattle.flat_tiles.specs.Verdicts.{Judged}
+use Rattle.flat_tiles.specs.declared.verdict.Verdict.{Verdict}
 use Rattle.flat_tiles.specs.Flats.{flatIn}
 use Rattle.flat_tiles.proofs.Words.{runnable}
 use Rattle.flat_tiles.proofs.Parts.{pixels-in}

@@ -1,4 +1,4 @@
-use Rattle.drawing.proofs.Children.{lesser-first, lesser-second}
+use Rattle.walk.proofs.Children.{lesser-first, lesser-second}
 use mathlib.Core.Path.{sym}
 use native.Mathlib.Omega.{arith}
 use Rattle.flat_tiles.proofs.region.lesser.Statement.{statement}

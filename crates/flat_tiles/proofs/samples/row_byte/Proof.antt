@@ -5,7 +5,7 @@ use native.Mathlib.Omega.{arith}
 use Rattle.rules.specs.Tapes.{valueAt, material}
 use Rattle.rules.specs.Drawings.{sampleAt}
 use Rattle.rules.specs.Accepted.{Accepted}
-use Rattle.drawing.proofs.Signs.{sign}
+use Rattle.walk.proofs.Signs.{sign}
 use Rattle.code.specs.Words.{tapeIn}
 use Rattle.picture.specs.Bits.{rowByte}
 use Rattle.picture.specs.declared.grid.Grid.{Grid}

@@ -3,7 +3,7 @@ use mathlib.Core.Path.{refl, _∙_}
 use mathlib.Core.List.{[]}
 use Prim.Native.Nat.{_-_}
 use native.Mathlib.Omega.{arith}
-use Rattle.drawing.proofs.Children.{rows-start, rows-step, rows-end}
+use Rattle.walk.proofs.Children.{rows-start, rows-step, rows-end}
 use Rattle.flat_tiles.proofs.Parts.{given-on}
 use Rattle.flat_tiles.proofs.Loops.{RowsPlace, left-start, left-list, left-done}
 use Rattle.flat_tiles.proofs.samples.sample_rows.Statement.{statement}

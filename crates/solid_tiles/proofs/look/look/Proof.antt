@@ -1,17 +1,28 @@
 -- Hidden, full, empty and cut.
-use mathlib.Core.Path.{_≡_}
 use mathlib.Core.Bool.{true, false}
 use native.Mathlib.Omega.{arith}
-use Rattle.rules.specs.Drawings.{boxOf}
-use Rattle.fixed.specs.Shapes.{boxIn}
 use Rattle.picture.specs.Shapes.{gridIn}
-use Rattle.drawing.specs.Draws.{Hidden, Same}
-use Rattle.drawing.specs.Verdicts.{Sound}
-use Rattle.solid_tiles.specs.Cells.{regionIn}
-use Rattle.solid_tiles.proofs.LookLaws.{sound-runs, sound-length, full-of, empty-of, cut-of, done-hidden, done-full, done-empty, opened}
+use Rattle.walk.specs.Cells.{regionIn}
+use Rattle.walk.specs.Draws.{Hidden, Same}
+use Rattle.walk.proofs.CellLaws.{cell-spans}
+use Rattle.walk.proofs.LookLaws.{sound-runs, full-of, empty-of, mixed-of, done-hidden, done-full, done-empty, opened}
 use borrow.Author.Needs.{needs}
 use Rattle.solid_tiles.proofs.look.look.Statement.{statement}
 use Rattle.solid_tiles.proofs.look.look.Tie as tie
+
+-- The places: the start, once the region is known to be seen, and the run over ranges, once the verdict is there.
+abbrev start : tie.Else1 → tie.Start
+start c = c .before .before .before .before .before .before .before
+
+abbrev ranged : tie.After-verdict-on → tie.After-cell-range
+ranged c = c .before .before .before
+
+abbrev unhidden : tie.After-cell-range → tie.Else1
+unhidden c = c .before .before
+
+seen : (c : tie.Else1)
+    → Hidden Same (gridIn (start c .args .grid) true) (regionIn (start c .args .c)) (start c .args .picture .now) false
+seen c = rw (c .if1 .left) at (c .before .is-hidden .ensures)
 
 is-hidden-requires : tie.Need-is-hidden-requires
 is-hidden-requires c κs = search needs
@@ -20,46 +31,35 @@ same-length : tie.Need-same-length
 same-length c = search needs
 
 returns : tie.Need-returns
-returns c = done-hidden (rw (c .if1 .taken) at (c .before .is-hidden .ensures))
+returns c = done-hidden true (rw (c .if1 .taken) at (c .before .is-hidden .ensures))
 
-bounds-requires : tie.Need-bounds-requires
-bounds-requires c κs = search needs
+cell-range-requires : tie.Need-cell-range-requires
+cell-range-requires c κs =
+    let s = start (c .before) in
+    let p = s .pre .1 in
+    (sound-runs (s .pre .0), (cell-spans true _ _ (p .1 .0) (p .0 .fault), p .1 .1 .0))
 
-judge-requires : tie.Need-judge-requires
-judge-requires c κs =
-    let s = c .before .before .before .before .before .before .before .before .before .before in
-    let l = sound-length (s .pre .0) in
-    (sound-runs (s .pre .0), (c .before .before .bounds .ensures .1, (omega arith, omega arith)))
-
--- What is known once the verdict is there.
-abbrev start : tie.After-judge → tie.Start
-start c = c .before .before .before .before .before .before .before .before .before .before .before
-
-sound : (c : tie.After-judge) → Sound (start c .args .code .now)
-sound c = start c .pre .0
-
-seen : (c : tie.After-judge)
-    → Hidden Same (gridIn (start c .args .grid) true) (regionIn (start c .args .c)) (start c .args .picture .now) false
-seen c =
-    let e = c .before .before .before .before in rw (e .if1 .left) at (e .before .is-hidden .ensures)
-
-boxed : (c : tie.After-judge)
-    → boxIn (c .before .before .before .bounds .result) ≡ boxOf (gridIn (start c .args .grid) true) (regionIn (start c .args .c))
-boxed c = c .before .before .before .bounds .ensures .0
+verdict-on-requires : tie.Need-verdict-on-requires
+verdict-on-requires c κs = search needs
 
 enum-told : tie.Need-enum-told
 enum-told c = search needs
 
 fill-requires : tie.Need-fill-requires
-fill-requires c κs =
-    let s = c .before .before .before .before .before .before .before .before .before .before .before .before .before .before .before .before .before .before in
-    (s .pre .1 .0, s .pre .1 .1 .0)
+fill-requires c κs = search needs
 
 enum-told-2 : tie.Need-enum-told-2
 enum-told-2 c = search needs
 
-enum-known-verdict : tie.Need-enum-known-verdict
-enum-known-verdict c = search needs
+enum-told-3 : tie.Need-enum-told-3
+enum-told-3 c = search needs
+
+shorten-requires : tie.Need-shorten-requires
+shorten-requires c κs =
+    let j = ranged (c .before .before .before .before) in
+    let s = start (unhidden j) in
+    let r = s .pre .1 .1 .1 in
+    (sound-runs (s .pre .0), (omega arith, omega arith))
 
 same-length-2 : tie.Need-same-length-2
 same-length-2 c = search needs
@@ -67,17 +67,31 @@ same-length-2 c = search needs
 same-length-3 : tie.Need-same-length-3
 same-length-3 c = search needs
 
+returns-2 : tie.Need-returns-2
+returns-2 c =
+    let filled = c .before .before in
+    let told = filled .before .before in
+    let v = told .before .before in
+    let j = ranged v in
+    let u = unhidden j in
+    let p = start u .pre .1 in
+    done-full true (p .1 .0) (p .0 .fault) (seen u) (j .cell-range .ensures)
+    (full-of _ (v .verdict-on .ensures) (told .enum-told .given .1)) (filled .fill .ensures)
+
 same-length-4 : tie.Need-same-length-4
 same-length-4 c = search needs
 
-returns-2 : tie.Need-returns-2
-returns-2 c =
-    let m = c .before .before .before .before in
-    let j = m .before .before .before .before .before .before in
-    done-full (sound j) (seen j) (boxed j) (full-of _ _ _ (j .judge .ensures) (m .enum-told .given .1)) (c .before .before .fill .ensures)
-
 same-length-5 : tie.Need-same-length-5
 same-length-5 c = search needs
+
+returns-3 : tie.Need-returns-3
+returns-3 c =
+    let v = c .before .before in
+    let j = ranged v in
+    let u = unhidden j in
+    let p = start u .pre .1 in
+    done-empty true (p .1 .0) (p .0 .fault) (seen u) (j .cell-range .ensures)
+    (empty-of _ (v .verdict-on .ensures) (c .enum-told2 .given .1))
 
 same-length-6 : tie.Need-same-length-6
 same-length-6 c = search needs
@@ -85,24 +99,20 @@ same-length-6 c = search needs
 same-length-7 : tie.Need-same-length-7
 same-length-7 c = search needs
 
-returns-3 : tie.Need-returns-3
-returns-3 c =
-    let j = c .before .before .before .before .before .before in
-    done-empty (sound j) (seen j) (boxed j) (empty-of _ _ _ (j .judge .ensures) (c .enum-told2 .given .1))
-
 same-length-8 : tie.Need-same-length-8
 same-length-8 c = search needs
 
-same-length-9 : tie.Need-same-length-9
-same-length-9 c = search needs
-
-same-length-10 : tie.Need-same-length-10
-same-length-10 c = search needs
-
 returns-4 : tie.Need-returns-4
 returns-4 c =
-    let j = c .before .before .before .before .before .before .before in
-    opened (sound j) (seen j) (boxed j) (cut-of _ _ _ (j .judge .ensures) (c .before .verdict .given .1))
+    let shortened = c .before .before in
+    let w = shortened .shorten in
+    let told = shortened .before .before .before in
+    let v = told .before .before in
+    let j = ranged v in
+    let u = unhidden j in
+    let p = start u .pre .1 in
+    opened true (p .1 .0) (p .0 .fault) (seen u) (j .cell-range .ensures)
+    (mixed-of _ (v .verdict-on .ensures) (told .enum-told3 .given .1)) (w .ensures) (w .kept .1 .1 .0)
 
 pub look-spec : {M : Type 1} → statement M
 look-spec =
@@ -111,21 +121,20 @@ look-spec =
     is-hidden-requires
     same-length
     returns
-    bounds-requires
-    judge-requires
+    cell-range-requires
+    verdict-on-requires
     enum-told
     fill-requires
     enum-told-2
-    enum-known-verdict
+    enum-told-3
+    shorten-requires
     same-length-2
     same-length-3
-    same-length-4
     returns-2
+    same-length-4
     same-length-5
+    returns-3
     same-length-6
     same-length-7
-    returns-3
     same-length-8
-    same-length-9
-    same-length-10
     returns-4)

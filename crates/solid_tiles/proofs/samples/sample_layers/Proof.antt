@@ -1,63 +1,83 @@
 -- The layers of regions of side 1, from the greatest z down.
+use mathlib.Core.Bool.{true}
 use mathlib.Core.List.{[]}
 use Prim.Native.Nat.{_-_}
 use native.Mathlib.Omega.{arith}
-use Rattle.rules.specs.Drawings.{alongZ}
-use Rattle.drawing.proofs.Children.{layers-start, layers-step, layers-end}
-use Rattle.solid_tiles.proofs.Places.{Downward, down-starts, down-within, down-in, down-sum, down-list, down-done, ready-again}
+use Rattle.walk.proofs.LookLaws.{sound-length}
+use Rattle.walk.proofs.Loops.{AtLayer, layers-begin, layers-again, layers-done}
+use Rattle.walk.proofs.Places.{down-in, down-sum, ready-again}
 use Rattle.solid_tiles.proofs.samples.sample_layers.Statement.{statement}
 use Rattle.solid_tiles.proofs.samples.sample_layers.Tie as tie
 
 abbrev Inv-loop : tie.InvT-loop
 Inv-loop code grid parent picture₀ count₀ z₀ picture count z =
-    Downward 1 4 16384 code grid [] (alongZ 4 4 (parent .x) (parent .y) (parent .z) 1 (parent .xend) (parent .yend) (parent .zend))
-    (alongZ 4 4 (parent .x) (parent .y) (parent .z) 1 (parent .xend) (parent .yend) z) (parent .z) (parent .zend) picture₀ picture count z
+    AtLayer true 1 4 16 code grid []
+    (parent .x) (parent .xend) (parent .y) (parent .yend) (parent .z) (parent .zend) picture₀ picture count z
 
 abbrev μ-loop : tie.MeasureT-loop
 μ-loop code grid parent picture₀ count₀ z₀ picture count z = z - parent .z
 
+-- The places: the start, the loop, a turn of it, after the call, and past the loop.
+abbrev begun : tie.After-slice-known Inv-loop μ-loop → tie.Start Inv-loop μ-loop
+begun c = c .before .before
+
+abbrev start : tie.At-loop Inv-loop μ-loop → tie.Start Inv-loop μ-loop
+start c = begun (c .before)
+
+abbrev at-test : tie.Then1 Inv-loop μ-loop → tie.At-loop Inv-loop μ-loop
+at-test c = c .before .before
+
+abbrev in-turn : tie.After-sample-rows-arg Inv-loop μ-loop → tie.Then1 Inv-loop μ-loop
+in-turn c = c .before
+
+abbrev called : tie.After-slice-known2 Inv-loop μ-loop → tie.After-sample-rows Inv-loop μ-loop
+called c = c .before .before
+
+abbrev past : tie.Else1 Inv-loop μ-loop → tie.At-loop Inv-loop μ-loop
+past c = c .before .before
+
 loop-holds : tie.Need-loop-holds Inv-loop μ-loop
 loop-holds c =
-    let p = c .before .before .pre .1 .1 in
-    down-starts _ _ (layers-start 4 4 _ _ _ 1 _ _ (omega arith) _ _ (omega arith) (omega arith) (omega arith) (omega arith))
-    (omega arith) (omega arith) (omega arith) (omega arith) (omega arith)
+    let p = begun c .pre .1 .1 in
+    layers-begin _ _ (omega arith) (omega arith) (omega arith) (omega arith) (omega arith) (omega arith)
 
 sub-z : tie.Need-sub-z Inv-loop μ-loop
-sub-z c = down-in (c .before .before .loop .inv) (c .if1 .taken) .0
+sub-z c = down-in (at-test c .loop .inv .place) (c .if1 .taken) .0
 
 sample-rows-requires : tie.Need-sample-rows-requires Inv-loop μ-loop
 sample-rows-requires c κs =
-    let s = c .before .before .before .before .before .before in
-    let g = c .before .before .before .loop .inv in
+    let t = in-turn c in
+    let i = at-test t .loop .inv in
+    let s = start (at-test t) in
     let p = s .pre .1 .1 in
-    (s .pre .0, (ready-again (s .pre .1 .0) (g .size), (p .0, (p .1, down-in g (c .before .if1 .taken) .1))))
+    let again = ready-again (s .pre .1 .0) (i .place .size) in
+    (s .pre .0, (again, (p .0, (p .1, down-in (i .place) (t .if1 .taken) .1))))
 
 add-count : tie.Need-add-count Inv-loop μ-loop
 add-count c =
-    let v = c .before .before in
-    let t = v .before .before in
-    let i = t .before .before .loop .inv in
-    omega (arith, down-sum i (t .if1 .taken) (v .sample-rows .ensures .bound))
+    let t = in-turn (called c .before) in
+    let l = at-test t in
+    let sum = down-sum (l .loop .inv .place) (t .if1 .taken) (called c .sample-rows .ensures .bound) in
+    omega (arith, sound-length (start l .pre .0), sum)
 
 loop-less : tie.Need-loop-less Inv-loop μ-loop
 loop-less c =
-    let v = c .before .before in
-    let t = v .before .before in
-    let i = t .before .before .loop .inv in
-    omega (arith, down-in i (t .if1 .taken) .0)
+    let t = in-turn (called c .before) in
+    omega (arith, t .if1 .taken, down-in (at-test t .loop .inv .place) (t .if1 .taken) .0)
 
 loop-again : tie.Need-loop-again Inv-loop μ-loop
 loop-again c =
-    let v = c .before .before in
-    let t = v .before .before in
-    let i = t .before .before .loop .inv in
-    down-list i (t .if1 .taken) (layers-step 4 4 _ _ _ 1 _ _ (omega arith) _ (t .if1 .taken) (down-within i) (i .even)) (v .sample-rows .ensures) (v .sample-rows .kept .1 .1 .1 .1 .0)
+    let v = called c .sample-rows in
+    let t = in-turn (called c .before) in
+    let i = at-test t .loop .inv in
+    let kept = v .kept .1 .1 .1 .1 in
+    layers-again i (t .if1 .taken) (v .ensures) (kept .0)
 
 same-length : tie.Need-same-length Inv-loop μ-loop
-same-length c = c .before .before .loop .inv .size
+same-length c = past c .loop .inv .place .size
 
 returns : tie.Need-returns Inv-loop μ-loop
-returns c = let i = c .before .before .loop .inv in down-done i (layers-end 4 4 _ _ _ 1 _ _ (omega arith) _ (omega arith))
+returns c = layers-done (past c .loop .inv) (omega arith) (omega arith)
 
 pub sample-layers-spec : {M : Type 1} → statement M
 sample-layers-spec =

@@ -1,69 +1,87 @@
 -- One row of regions of side 1.
+use mathlib.Core.Bool.{true}
 use mathlib.Core.List.{[]}
 use Prim.Native.Nat.{_-_}
 use native.Mathlib.Omega.{arith}
-use Rattle.rules.specs.Drawings.{alongX}
-use Rattle.drawing.proofs.Children.{rowLeft, row-start, row-step, row-end}
-use Rattle.solid_tiles.proofs.CellLaws.{small}
-use Rattle.solid_tiles.proofs.Places.{Upward, up-starts, up-sum, up-one, up-done, ready-again, child-in}
+use Rattle.walk.proofs.CellLaws.{small, child-in}
+use Rattle.walk.proofs.LookLaws.{sound-length}
+use Rattle.walk.proofs.Loops.{AtColumn, row-begins, row-again, row-done}
+use Rattle.walk.proofs.Places.{up-sum, ready-again}
 use Rattle.solid_tiles.proofs.samples.sample_row.Statement.{statement}
 use Rattle.solid_tiles.proofs.samples.sample_row.Tie as tie
 
 abbrev Inv-loop : tie.InvT-loop
 Inv-loop code grid parent y z picture₀ count₀ x₀ picture count x =
-    Upward 1 4 1024 code grid [] (alongX 4 (parent .x) y z 1 (parent .xend)) (rowLeft x y z 1 (parent .xend))
-    (parent .x) (parent .xend) picture₀ picture count x
+    AtColumn true 1 4 1 code grid []
+    (parent .x) (parent .xend) y z picture₀ picture count x
 
 abbrev μ-loop : tie.MeasureT-loop
 μ-loop code grid parent y z picture₀ count₀ x₀ picture count x = parent .xend - x
 
+-- The places: the start, the loop, a turn of it, after the call, and past the loop.
+abbrev begun : tie.After-slice-known Inv-loop μ-loop → tie.Start Inv-loop μ-loop
+begun c = c .before .before
+
+abbrev start : tie.At-loop Inv-loop μ-loop → tie.Start Inv-loop μ-loop
+start c = begun (c .before)
+
+abbrev at-test : tie.Then1 Inv-loop μ-loop → tie.At-loop Inv-loop μ-loop
+at-test c = c .before .before
+
+abbrev in-turn : tie.After-visit-sample-arg Inv-loop μ-loop → tie.Then1 Inv-loop μ-loop
+in-turn c = c .before
+
+abbrev called : tie.After-slice-known2 Inv-loop μ-loop → tie.After-visit-sample Inv-loop μ-loop
+called c = c .before .before
+
+abbrev past : tie.Else1 Inv-loop μ-loop → tie.At-loop Inv-loop μ-loop
+past c = c .before .before
+
 loop-holds : tie.Need-loop-holds Inv-loop μ-loop
 loop-holds c =
-    let p = c .before .before .pre .1 .1 in
-    up-starts _ (row-start _ _ 1 _ (omega arith) 4 _ (omega arith)) (omega arith)
+    let p = begun c .pre .1 .1 in
+    row-begins _ (omega arith) (omega arith)
 
 visit-sample-requires : tie.Need-visit-sample-requires Inv-loop μ-loop
 visit-sample-requires c κs =
-    let s = c .before .before .before .before .before .before in
-    let g = c .before .before .before .loop .inv in
+    let t = in-turn c in
+    let i = at-test t .loop .inv in
+    let s = start (at-test t) in
     let p = s .pre .1 .1 in
-    (s .pre .0, (ready-again (s .pre .1 .0) (g .size), child-in _ _ _ (p .0) (c .before .if1 .taken) (p .1 .1) (p .1 .2)))
+    let again = ready-again (s .pre .1 .0) (i .place .size) in
+    let inside = child-in _ _ _ (p .0) (t .if1 .taken) (p .1 .1) (p .1 .2) in
+    (s .pre .0, (again, inside))
 
 add-count : tie.Need-add-count Inv-loop μ-loop
 add-count c =
-    let v = c .before .before in
-    let t = v .before .before in
-    let i = t .before .before .loop .inv in
-    omega (arith, up-sum i (t .if1 .taken) (v .visit-sample .ensures .bound))
+    let t = in-turn (called c .before) in
+    let l = at-test t in
+    let sum = up-sum (l .loop .inv .place) (t .if1 .taken) (called c .visit-sample .ensures .bound) in
+    omega (arith, sound-length (start l .pre .0), sum)
 
 add-x : tie.Need-add-x Inv-loop μ-loop
 add-x c =
-    let v = c .before .before in
-    let t = v .before .before in
-    let i = t .before .before .loop .inv in
-    let p = t .before .before .before .before .before .pre .1 in
-    let d = small _ (p .0 .fault) in
-    omega arith
+    let t = in-turn (called c .before) in
+    let p = start (at-test t) .pre .1 in
+    let d = small true _ (p .0 .fault) in
+    omega (arith, t .if1 .taken)
 
 loop-less : tie.Need-loop-less Inv-loop μ-loop
-loop-less c =
-    let v = c .before .before in
-    let t = v .before .before in
-    let i = t .before .before .loop .inv in
-    omega arith
+loop-less c = omega (arith, in-turn (called c .before) .if1 .taken)
 
 loop-again : tie.Need-loop-again Inv-loop μ-loop
 loop-again c =
-    let v = c .before .before in
-    let t = v .before .before in
-    let i = t .before .before .loop .inv in
-    up-one i (t .if1 .taken) (row-step _ _ 1 _ (omega arith) _ (t .if1 .taken)) (v .visit-sample .ensures) (v .visit-sample .kept .1 .1 .1 .1 .1 .0)
+    let v = called c .visit-sample in
+    let t = in-turn (called c .before) in
+    let i = at-test t .loop .inv in
+    let kept = v .kept .1 .1 .1 .1 .1 in
+    row-again i (t .if1 .taken) (v .ensures) (kept .0)
 
 same-length : tie.Need-same-length Inv-loop μ-loop
-same-length c = c .before .before .loop .inv .size
+same-length c = past c .loop .inv .place .size
 
 returns : tie.Need-returns Inv-loop μ-loop
-returns c = let i = c .before .before .loop .inv in up-done i (row-end _ _ 1 _ (omega arith) _ (omega arith))
+returns c = row-done (past c .loop .inv) (omega arith) (omega arith)
 
 pub sample-row-spec : {M : Type 1} → statement M
 sample-row-spec =

@@ -1,69 +1,86 @@
 -- The rows of one layer of regions of side 1.
+use mathlib.Core.Bool.{true}
 use mathlib.Core.List.{[]}
 use Prim.Native.Nat.{_-_}
 use native.Mathlib.Omega.{arith}
-use Rattle.rules.specs.Drawings.{alongY}
-use Rattle.drawing.proofs.Children.{rowsLeft, rows-start, rows-step, rows-end}
-use Rattle.solid_tiles.proofs.CellLaws.{small}
-use Rattle.solid_tiles.proofs.Places.{Upward, up-starts, up-sum, up-list, up-done, ready-again}
+use Rattle.walk.proofs.CellLaws.{small}
+use Rattle.walk.proofs.LookLaws.{sound-length}
+use Rattle.walk.proofs.Loops.{AtRow, rows-begin, rows-again, rows-done}
+use Rattle.walk.proofs.Places.{up-sum, ready-again}
 use Rattle.solid_tiles.proofs.samples.sample_rows.Statement.{statement}
 use Rattle.solid_tiles.proofs.samples.sample_rows.Tie as tie
 
 abbrev Inv-loop : tie.InvT-loop
 Inv-loop code grid parent z picture₀ count₀ y₀ picture count y =
-    Upward 1 4 4096 code grid [] (alongY 4 4 (parent .x) (parent .y) z 1 (parent .xend) (parent .yend))
-    (rowsLeft y 4 (parent .x) z 1 (parent .xend) (parent .yend)) (parent .y) (parent .yend) picture₀ picture count y
+    AtRow true 1 4 4 code grid []
+    (parent .x) (parent .xend) (parent .y) (parent .yend) z picture₀ picture count y
 
 abbrev μ-loop : tie.MeasureT-loop
 μ-loop code grid parent z picture₀ count₀ y₀ picture count y = parent .yend - y
 
+-- The places: the start, the loop, a turn of it, after the call, and past the loop.
+abbrev begun : tie.After-slice-known Inv-loop μ-loop → tie.Start Inv-loop μ-loop
+begun c = c .before .before
+
+abbrev start : tie.At-loop Inv-loop μ-loop → tie.Start Inv-loop μ-loop
+start c = begun (c .before)
+
+abbrev at-test : tie.Then1 Inv-loop μ-loop → tie.At-loop Inv-loop μ-loop
+at-test c = c .before .before
+
+abbrev in-turn : tie.After-sample-row-arg Inv-loop μ-loop → tie.Then1 Inv-loop μ-loop
+in-turn c = c .before
+
+abbrev called : tie.After-slice-known2 Inv-loop μ-loop → tie.After-sample-row Inv-loop μ-loop
+called c = c .before .before
+
+abbrev past : tie.Else1 Inv-loop μ-loop → tie.At-loop Inv-loop μ-loop
+past c = c .before .before
+
 loop-holds : tie.Need-loop-holds Inv-loop μ-loop
 loop-holds c =
-    let p = c .before .before .pre .1 .1 in
-    up-starts _ (rows-start _ _ _ 1 _ _ (omega arith) 4 _ (omega arith)) (omega arith)
+    let p = begun c .pre .1 .1 in
+    rows-begin _ (omega arith) (omega arith)
 
 sample-row-requires : tie.Need-sample-row-requires Inv-loop μ-loop
 sample-row-requires c κs =
-    let s = c .before .before .before .before .before .before in
-    let g = c .before .before .before .loop .inv in
+    let t = in-turn c in
+    let i = at-test t .loop .inv in
+    let s = start (at-test t) in
     let p = s .pre .1 .1 in
-    (s .pre .0, (ready-again (s .pre .1 .0) (g .size), (p .0, (p .1 .0, c .before .if1 .taken, p .1 .1))))
+    let again = ready-again (s .pre .1 .0) (i .place .size) in
+    (s .pre .0, (again, (p .0, (p .1 .0, t .if1 .taken, p .1 .1))))
 
 add-count : tie.Need-add-count Inv-loop μ-loop
 add-count c =
-    let v = c .before .before in
-    let t = v .before .before in
-    let i = t .before .before .loop .inv in
-    omega (arith, up-sum i (t .if1 .taken) (v .sample-row .ensures .bound))
+    let t = in-turn (called c .before) in
+    let l = at-test t in
+    let sum = up-sum (l .loop .inv .place) (t .if1 .taken) (called c .sample-row .ensures .bound) in
+    omega (arith, sound-length (start l .pre .0), sum)
 
 add-y : tie.Need-add-y Inv-loop μ-loop
 add-y c =
-    let v = c .before .before in
-    let t = v .before .before in
-    let i = t .before .before .loop .inv in
-    let p = t .before .before .before .before .before .pre .1 in
-    let d = small _ (p .0 .fault) in
-    omega arith
+    let t = in-turn (called c .before) in
+    let p = start (at-test t) .pre .1 in
+    let d = small true _ (p .0 .fault) in
+    omega (arith, t .if1 .taken)
 
 loop-less : tie.Need-loop-less Inv-loop μ-loop
-loop-less c =
-    let v = c .before .before in
-    let t = v .before .before in
-    let i = t .before .before .loop .inv in
-    omega arith
+loop-less c = omega (arith, in-turn (called c .before) .if1 .taken)
 
 loop-again : tie.Need-loop-again Inv-loop μ-loop
 loop-again c =
-    let v = c .before .before in
-    let t = v .before .before in
-    let i = t .before .before .loop .inv in
-    up-list i (t .if1 .taken) (rows-step _ _ _ 1 _ _ (omega arith) _ (t .if1 .taken)) (v .sample-row .ensures) (v .sample-row .kept .1 .1 .1 .1 .1 .0)
+    let v = called c .sample-row in
+    let t = in-turn (called c .before) in
+    let i = at-test t .loop .inv in
+    let kept = v .kept .1 .1 .1 .1 .1 in
+    rows-again i (t .if1 .taken) (v .ensures) (kept .0)
 
 same-length : tie.Need-same-length Inv-loop μ-loop
-same-length c = c .before .before .loop .inv .size
+same-length c = past c .loop .inv .place .size
 
 returns : tie.Need-returns Inv-loop μ-loop
-returns c = let i = c .before .before .loop .inv in up-done i (rows-end _ _ _ 1 _ _ (omega arith) _ (omega arith))
+returns c = rows-done (past c .loop .inv) (omega arith) (omega arith)
 
 pub sample-rows-spec : {M : Type 1} → statement M
 sample-rows-spec =

@@ -1,92 +1,118 @@
 -- One row of regions of side 64.
 use mathlib.Core.Path.{_≡_, refl, _∙_}
+use mathlib.Core.Bool.{true}
 use Prim.Native.Nat.{_-_}
 use native.Mathlib.Omega.{arith}
 use lib.ListN.{length}
-use Rattle.rules.specs.Drawings.{alongX}
-use Rattle.drawing.proofs.Children.{rowLeft, row-start, row-step, row-end}
-use Rattle.solid_tiles.specs.Walks.{below64}
-use Rattle.solid_tiles.proofs.CellLaws.{small}
-use Rattle.solid_tiles.proofs.Places.{Upward, up-starts, up-sum, up-one, up-done, ready-again, child-in}
+use Rattle.rules.specs.Drawings.{solidBound}
+use Rattle.walk.proofs.CellLaws.{small, child-in}
+use Rattle.walk.proofs.LookLaws.{sound-length}
+use Rattle.walk.proofs.Loops.{AtColumn, row-begins, row-again, row-done}
+use Rattle.walk.proofs.Places.{up-sum, ready-again}
+use Rattle.solid_tiles.specs.Sides.{below64}
 use Rattle.solid_tiles.proofs.tiles.tile_row.Statement.{statement}
 use Rattle.solid_tiles.proofs.tiles.tile_row.Tie as tie
 
 abbrev Inv-loop : tie.InvT-loop
-Inv-loop code grid parent y z picture₀ choices₀ first₀ second₀ third₀ count₀ x₀ picture choices first second third count x =
-    Upward 64 8 272696320 code grid below64 (alongX 8 (parent .x) y z 64 (parent .xend)) (rowLeft x y z 64 (parent .xend))
-    (parent .x) (parent .xend) picture₀ picture count x
+Inv-loop code grid parent y z picture₀ choices₀ first₀ second₀ third₀ count₀ x₀
+    picture choices first second third count x =
+    AtColumn true 64 8 solidBound code grid below64
+    (parent .x) (parent .xend) y z picture₀ picture count x
     × (length choices ≡ length choices₀)
     × (length first ≡ length first₀)
     × (length second ≡ length second₀)
     × (length third ≡ length third₀)
 
 abbrev μ-loop : tie.MeasureT-loop
-μ-loop code grid parent y z picture₀ choices₀ first₀ second₀ third₀ count₀ x₀ picture choices first second third count x = parent .xend - x
+μ-loop code grid parent y z picture₀ choices₀ first₀ second₀ third₀ count₀ x₀
+    picture choices first second third count x = parent .xend - x
+
+-- The places: the start, the loop, a turn of it, after the call, and past the loop.
+abbrev begun : tie.After-slice-known5 Inv-loop μ-loop → tie.Start Inv-loop μ-loop
+begun c = c .before .before .before .before .before .before
+
+abbrev start : tie.At-loop Inv-loop μ-loop → tie.Start Inv-loop μ-loop
+start c = begun (c .before)
+
+abbrev at-test : tie.Then1 Inv-loop μ-loop → tie.At-loop Inv-loop μ-loop
+at-test c = c .before .before
+
+abbrev in-turn : tie.After-visit-tile-arg5 Inv-loop μ-loop → tie.Then1 Inv-loop μ-loop
+in-turn c = c .before .before .before .before .before
+
+abbrev called : tie.After-slice-known10 Inv-loop μ-loop → tie.After-visit-tile Inv-loop μ-loop
+called c = c .before .before .before .before .before .before .before .before .before .before
+
+abbrev past : tie.Else1 Inv-loop μ-loop → tie.At-loop Inv-loop μ-loop
+past c = c .before .before
 
 loop-holds : tie.Need-loop-holds Inv-loop μ-loop
 loop-holds c =
-    let p = c .before .before .before .before .before .before .pre .1 .1 in
-    (up-starts _ (row-start _ _ 64 _ (omega arith) 8 _ (omega arith)) (omega arith), refl, refl, refl, refl)
+    let p = begun c .pre .1 .1 in (
+      row-begins _ (omega arith) (omega arith),
+      refl,
+      refl,
+      refl,
+      refl,
+    )
 
 visit-tile-requires : tie.Need-visit-tile-requires Inv-loop μ-loop
 visit-tile-requires c κs =
-    let s = c .before .before .before .before .before .before .before .before .before .before .before .before .before .before in
-    let g = c .before .before .before .before .before .before .before .loop .inv in
+    let t = in-turn c in
+    let i = at-test t .loop .inv in
+    let s = start (at-test t) in
     let p = s .pre .1 .1 in
-    (s .pre .0, (ready-again (s .pre .1 .0) (g .0 .size), (child-in _ _ _ (p .0) (c .before .before .before .before .before .if1 .taken) (p .1 .0 .1) (p .1 .0 .2), (omega arith, omega arith, omega arith, omega arith))))
+    let again = ready-again (s .pre .1 .0) (i .0 .place .size) in
+    let inside = child-in _ _ _ (p .0) (t .if1 .taken) (p .1 .0 .1) (p .1 .0 .2) in
+    (s .pre .0, (again, (inside, (omega arith, omega arith, omega arith, omega arith))))
 
 add-count : tie.Need-add-count Inv-loop μ-loop
 add-count c =
-    let v = c .before .before .before .before .before .before .before .before .before .before in
-    let t = v .before .before .before .before .before .before in
-    let i = t .before .before .loop .inv .0 in
-    omega (arith, up-sum i (t .if1 .taken) (v .visit-tile .ensures .bound))
+    let t = in-turn (called c .before) in
+    let l = at-test t in
+    let sum = up-sum (l .loop .inv .0 .place) (t .if1 .taken) (called c .visit-tile .ensures .bound) in
+    omega (arith, sound-length (start l .pre .0), sum)
 
 add-x : tie.Need-add-x Inv-loop μ-loop
 add-x c =
-    let v = c .before .before .before .before .before .before .before .before .before .before in
-    let t = v .before .before .before .before .before .before in
-    let i = t .before .before .loop .inv .0 in
-    let p = t .before .before .before .before .before .before .before .before .before .pre .1 in
-    let d = small _ (p .0 .fault) in
-    omega arith
+    let t = in-turn (called c .before) in
+    let p = start (at-test t) .pre .1 in
+    let d = small true _ (p .0 .fault) in
+    omega (arith, t .if1 .taken)
 
 loop-less : tie.Need-loop-less Inv-loop μ-loop
-loop-less c =
-    let v = c .before .before .before .before .before .before .before .before .before .before in
-    let t = v .before .before .before .before .before .before in
-    let i = t .before .before .loop .inv .0 in
-    omega arith
+loop-less c = omega (arith, in-turn (called c .before) .if1 .taken)
 
 loop-again : tie.Need-loop-again Inv-loop μ-loop
 loop-again c =
-    let v = c .before .before .before .before .before .before .before .before .before .before in
-    let t = v .before .before .before .before .before .before in
-    let i = t .before .before .loop .inv .0 in (
-      up-one i (t .if1 .taken) (row-step _ _ 64 _ (omega arith) _ (t .if1 .taken)) (v .visit-tile .ensures) (v .visit-tile .kept .1 .1 .1 .1 .1 .0),
-      v .visit-tile .kept .1 .1 .1 .1 .1 .1 .0 ∙ t .before .before .loop .inv .1,
-      v .visit-tile .kept .1 .1 .1 .1 .1 .1 .1 .0 ∙ t .before .before .loop .inv .2,
-      v .visit-tile .kept .1 .1 .1 .1 .1 .1 .1 .1 .0 ∙ t .before .before .loop .inv .3,
-      v .visit-tile .kept .1 .1 .1 .1 .1 .1 .1 .1 .1 .0 ∙ t .before .before .loop .inv .4,
+    let v = called c .visit-tile in
+    let t = in-turn (called c .before) in
+    let i = at-test t .loop .inv in
+    let kept = v .kept .1 .1 .1 .1 .1 in (
+      row-again (i .0) (t .if1 .taken) (v .ensures) (kept .0),
+      kept .1 .0 ∙ i .1,
+      kept .1 .1 .0 ∙ i .2,
+      kept .1 .1 .1 .0 ∙ i .3,
+      kept .1 .1 .1 .1 .0 ∙ i .4,
     )
 
 same-length : tie.Need-same-length Inv-loop μ-loop
-same-length c = c .before .before .loop .inv .0 .size
+same-length c = past c .loop .inv .0 .place .size
 
 same-length-2 : tie.Need-same-length-2 Inv-loop μ-loop
-same-length-2 c = c .before .before .loop .inv .1
+same-length-2 c = past c .loop .inv .1
 
 same-length-3 : tie.Need-same-length-3 Inv-loop μ-loop
-same-length-3 c = c .before .before .loop .inv .2
+same-length-3 c = past c .loop .inv .2
 
 same-length-4 : tie.Need-same-length-4 Inv-loop μ-loop
-same-length-4 c = c .before .before .loop .inv .3
+same-length-4 c = past c .loop .inv .3
 
 same-length-5 : tie.Need-same-length-5 Inv-loop μ-loop
-same-length-5 c = c .before .before .loop .inv .4
+same-length-5 c = past c .loop .inv .4
 
 returns : tie.Need-returns Inv-loop μ-loop
-returns c = let i = c .before .before .loop .inv .0 in up-done i (row-end _ _ 64 _ (omega arith) _ (omega arith))
+returns c = row-done (past c .loop .inv .0) (omega arith) (omega arith)
 
 pub tile-row-spec : {M : Type 1} → statement M
 tile-row-spec =

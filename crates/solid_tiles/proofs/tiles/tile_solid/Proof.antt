@@ -1,41 +1,40 @@
 -- All tiles, from heights of 0.
 use mathlib.Core.Path.{ap, _∙_}
+use mathlib.Core.Bool.{true}
 use native.Mathlib.Omega.{arith}
 use lib.ListN.{replicate}
 use Rattle.rules.specs.Drawings.{Region}
-use Rattle.solid_tiles.proofs.Places.{ready-again}
-use Rattle.solid_tiles.proofs.WalkLaws.{first-in, folds-walked}
+use Rattle.walk.proofs.CellLaws.{small, first-in}
+use Rattle.walk.proofs.Places.{ready-again}
+use Rattle.solid_tiles.proofs.WalkLaws.{folds-walked}
 use borrow.Author.Needs.{needs}
 use Rattle.solid_tiles.proofs.tiles.tile_solid.Statement.{statement}
 use Rattle.solid_tiles.proofs.tiles.tile_solid.Tie as tie
+
+-- The places: the start, once the picture is clear, and that, once the cell is made.
+abbrev start : tie.After-clear → tie.Start
+start c = c .before .before .before .before .before
+
+abbrev cleared : tie.After-cell-at → tie.After-clear
+cleared c = c .before .before .before
 
 clear-requires : tie.Need-clear-requires
 clear-requires c κs = search needs
 
 cell-at-requires : tie.Need-cell-at-requires
 cell-at-requires c κs =
-    let s = c .before .before .before .before .before .before .before in
-    let e = s .pre .1 .0 .fault in
-    (e, (first-in _ e, (omega arith, omega arith)))
+    let e = start (c .before .before) .pre .1 .0 .fault in
+    (small true _ e, (first-in true _ e, (omega arith, omega arith)))
 
-slice-aggregate-tile-layers : tie.Need-slice-aggregate-tile-layers
-slice-aggregate-tile-layers c = search needs
-
-slice-aggregate-tile-layers-2 : tie.Need-slice-aggregate-tile-layers-2
-slice-aggregate-tile-layers-2 c = search needs
-
-slice-aggregate-tile-layers-3 : tie.Need-slice-aggregate-tile-layers-3
-slice-aggregate-tile-layers-3 c = search needs
-
-tile-layers-requires : tie.Need-tile-layers-requires
-tile-layers-requires c κs =
-    let s = c .before .before .before .before .before .before .before .before .before .before .before .before .before in
-    let k = c .before .before .before .before .before .cell-at .ensures in
-    let r = s .pre .1 .1 in (
+tiles-in-requires : tie.Need-tiles-in-requires
+tiles-in-requires c κs =
+    let made = c .before .before in
+    let k = made .cell-at .ensures in
+    let s = start (cleared made) in (
       s .pre .0,
       (
-        ready-again (s .pre .1 .0) (c .before .before .before .before .before .before .before .before .clear .kept .0),
-        (k .ok, (ap (λ (q : Region). q .long) (k .same), (omega arith, omega arith, omega arith, omega arith))),
+        ready-again (s .pre .1 .0) (cleared made .clear .kept .0),
+        (k .ok, (ap (λ (q : Region). q .long) (k .same), s .pre .1 .1)),
       ),
     )
 
@@ -47,21 +46,13 @@ same-length-2 c = search needs
 
 returns : tie.Need-returns
 returns c =
-    let u = c .before .before .before .before .before .before .before in
-    let s = u .before .before .before .before .before .before .before .before .before .before .before .before .before .before in
-    folds-walked (u .before .before .before .before .before .before .cell-at .ensures) (s .pre .1 .0 .fault) (u .tile-layers .ensures)
-    (u .before .before .before .before .before .before .before .before .before .clear .ensures ∙ ap (λ n. replicate n 0) (s .pre .1 .0 .size))
+    let u = c .before .before .before .before in
+    let made = u .before .before .before in
+    let r = start (cleared made) .pre .1 .0 in
+    folds-walked (made .cell-at .ensures) (r .fault) (u .tiles-in .ensures)
+    (cleared made .clear .ensures ∙ ap (λ n. replicate n 0) (r .size))
 
 pub tile-solid-spec : {M : Type 1} → statement M
 tile-solid-spec =
     tie.close
-    (tie.spec
-    clear-requires
-    cell-at-requires
-    slice-aggregate-tile-layers
-    slice-aggregate-tile-layers-2
-    slice-aggregate-tile-layers-3
-    tile-layers-requires
-    same-length
-    same-length-2
-    returns)
+    (tie.spec clear-requires cell-at-requires tiles-in-requires same-length same-length-2 returns)

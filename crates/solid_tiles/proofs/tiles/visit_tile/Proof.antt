@@ -1,38 +1,63 @@
 -- Done by the look, or cut and its children visited.
 use mathlib.Core.Path.{refl, ap}
+use mathlib.Core.Bool.{true}
+use Prim.Native.Nat.{_*_}
 use native.Mathlib.Omega.{arith}
-use Rattle.rules.specs.Drawings.{Region, region}
-use Rattle.solid_tiles.specs.Cells.{CellOf, regionIn}
-use Rattle.solid_tiles.specs.Walks.{Opened, below16}
-use Rattle.solid_tiles.proofs.LookLaws.{sound-length, done-of, open-of, done-visits, open-sound, open-visits}
-use Rattle.solid_tiles.proofs.Places.{ready-again}
+use Rattle.rules.specs.Drawings.{solidBound, Region, region}
+use Rattle.walk.specs.Cells.{CellOf, regionIn}
+use Rattle.walk.specs.Walks.{Opened}
+use Rattle.walk.proofs.CellLaws.{small}
+use Rattle.walk.proofs.LookLaws.{sound-length, done-of, open-of, done-visits, open-sound, open-fewer, open-layers}
+use Rattle.walk.proofs.Places.{ready-again}
+use Rattle.solid_tiles.specs.Sides.{below16}
 use borrow.Author.Needs.{needs}
 use Rattle.solid_tiles.proofs.tiles.visit_tile.Statement.{statement}
 use Rattle.solid_tiles.proofs.tiles.visit_tile.Tie as tie
 
+-- The places: the start, after the look, the arm of a cut, the call for its children, and after it.
+abbrev begun : tie.After-cell-at → tie.Start
+begun c = c .before .before .before .before .before .before .before
+
+abbrev with-cell : tie.After-look → tie.After-cell-at
+with-cell c = c .before .before .before .before
+
+abbrev start : tie.After-look → tie.Start
+start c = begun (with-cell c)
+
+abbrev looked : tie.After-known-told2 → tie.After-look
+looked c = c .before .before .before .before .before .before .before .before .before
+
+abbrev in-cut : tie.After-sixteen-layers-arg4 → tie.After-known-told2
+in-cut c = c .before .before .before .before .before .before
+
+abbrev visited : tie.After-slice-known12 → tie.After-sixteen-layers
+visited c = c .before .before .before .before .before .before .before .before
+
+-- What is known at them.
+made : (c : tie.After-look)
+    → let a = start c .args in
+    CellOf (a .grid .depth) (a .grid) (region (a .x) (a .y) (a .z) 64) (with-cell c .cell-at .result)
+made c = with-cell c .cell-at .ensures
+
+opened : (c : tie.After-known-told2)
+    → let j = looked c in
+    let a = start j .args in
+    let now = j .look .last .1 .1 .1 in
+    Opened true (a .code .now) (a .grid) (regionIn (with-cell j .cell-at .result)) (a .picture .now) (now .0)
+    (now .1 .1 .0) (c .before .seen2 .given .0 .0)
+opened c = open-of true _ _ _ _ _ _ (looked c .look .ensures) (c .before .seen2 .given .1)
+
 cell-at-requires : tie.Need-cell-at-requires
-cell-at-requires c κs = search needs
+cell-at-requires c κs =
+    let s = c .before .before .before .before .before .before in
+    (small true _ (s .pre .1 .0 .fault), (s .pre .1 .1 .0, (omega arith, omega arith)))
 
 look-requires : tie.Need-look-requires
 look-requires c κs =
-    let s = c .before .before .before .before .before .before .before .before .before .before in
+    let made = c .before .before .before in
+    let s = begun made in
     let r = s .pre .1 .1 .1 in
-    (s .pre .0, (s .pre .1 .0, (c .before .before .before .cell-at .ensures .ok, (omega arith, omega arith))))
-
--- What is known after the look.
-abbrev begun : tie.After-look → tie.Start
-begun c = c .before .before .before .before .before .before .before .before .before .before .before
-
-made : (c : tie.After-look)
-    → let a = begun c .args in CellOf (a .grid) (region (a .x) (a .y) (a .z) 64) (c .before .before .before .before .cell-at .result)
-made c = c .before .before .before .before .cell-at .ensures
-
-opened : (c : tie.After-known-told2)
-    → let j = c .before .before .before .before .before .before .before .before .before in
-    let a = begun j .args in
-    Opened (a .code .now) (a .grid) (regionIn (j .before .before .before .before .cell-at .result)) (a .picture .now) (j .look .last .1 .1 .1 .0)
-    (j .look .last .1 .1 .1 .1 .1 .0) (c .before .seen2 .given .0 .0)
-opened c = open-of _ _ _ _ _ _ (c .before .before .before .before .before .before .before .before .before .look .ensures) (c .before .seen2 .given .1)
+    (s .pre .0, (s .pre .1 .0, (made .cell-at .ensures .ok, (omega arith, omega arith))))
 
 enum-known-seen : tie.Need-enum-known-seen
 enum-known-seen c = search needs
@@ -43,8 +68,8 @@ enum-known-seen-2 c = search needs
 mul-short : tie.Need-mul-short
 mul-short c =
     let o = opened c .cut .start in
-    let j = c .before .before .before .before .before .before .before .before .before in
-    let g = begun j .good in
+    let j = looked c in
+    let g = start j .good in
     omega (arith, j .look .kept .1 .1 .1 .1 .1 .0)
 
 sub-short : tie.Need-sub-short
@@ -59,21 +84,23 @@ part-short-end c = search needs
 -- Both tapes are sound; which of them is lent shows in what is drawn and counted.
 sixteen-layers-requires : tie.Need-sixteen-layers-requires
 sixteen-layers-requires c κs =
-    let t = c .before .before .before .before .before .before in
-    let j = t .before .before .before .before .before .before .before .before .before in
-    let s = begun j in
+    let t = in-cut c in
+    let j = looked t in
+    let s = start j in
     let k = made j in
     let r = s .pre .1 .1 .1 in
-    let short = open-sound 16 4 k (s .pre .1 .0 .fault) (s .pre .0) (opened t) in (
-      search (short, s .pre .0),
-      (ready-again (s .pre .1 .0) (j .look .kept .1 .1 .1 .0), (k .ok, (ap (λ (q : Region). q .long) (k .same), (omega arith, omega arith, omega arith)))),
-    )
+    let f = open-fewer (s .pre .0) (opened t) in
+    let short = open-sound (s .pre .0) (opened t) in
+    let again = ready-again (s .pre .1 .0) (j .look .kept .1 .1 .1 .0) in
+    let side = ap (λ (q : Region). q .long) (k .same) in
+    (search (short, s .pre .0), (again, (k .ok, (side, (omega arith, omega arith, omega arith)))))
 
 add-result : tie.Need-add-result
 add-result c =
-    let u = c .before .before .before .before .before .before .before .before in
-    let j = u .before .before .before .before .before .before .before .before .before .before .before .before .before .before .before .before in
-    omega (arith, sound-length (begun j .pre .0), u .sixteen-layers .ensures .bound)
+    let u = visited c in
+    let t = in-cut (u .before) in
+    let s = start (looked t) in
+    omega (arith, sound-length (s .pre .0), open-fewer (s .pre .0) (opened t), u .sixteen-layers .ensures .bound)
 
 same-length : tie.Need-same-length
 same-length c = search needs
@@ -87,7 +114,8 @@ same-length-3 c = search needs
 returns : tie.Need-returns
 returns c =
     let j = c .before .before .before .before .before .before .before .before .before in
-    done-visits 272696320 16 below16 (made j .same) (omega arith) (done-of _ _ _ _ _ _ (j .look .ensures) (c .before .seen .given .1))
+    done-visits solidBound 16 below16 (made j .same) (omega arith)
+    (done-of true _ _ _ _ _ _ (j .look .ensures) (c .before .seen .given .1))
 
 same-length-4 : tie.Need-same-length-4
 same-length-4 c = search needs
@@ -106,12 +134,12 @@ same-length-8 c = search needs
 
 returns-2 : tie.Need-returns-2
 returns-2 c =
-    let u = c .before .before .before .before .before .before .before .before in
-    let t = u .before .before .before .before .before .before .before in
-    let j = t .before .before .before .before .before .before .before .before .before in
-    let s = begun j in
-    open-visits 16 4 (made j) (s .pre .1 .0 .fault) (s .pre .0) (opened t) below16 refl (omega arith) (omega arith)
-    (u .sixteen-layers .ensures)
+    let u = visited c in
+    let t = in-cut (u .before) in
+    let j = looked t in
+    let s = start j in
+    open-layers 16 4 (s .pre .0) (omega arith) (omega arith) refl (made j) (s .pre .1 .0 .fault) (opened t)
+    below16 (64 * 4161) (u .sixteen-layers .ensures)
 
 pub visit-tile-spec : {M : Type 1} → statement M
 visit-tile-spec =

@@ -1,3 +1,0 @@
--- What the drawing functions are held to.
-pub mod Draws
-pub mod Verdicts

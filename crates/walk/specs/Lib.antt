@@ -1,0 +1,5 @@
+-- What the functions of the walk are held to.
+pub mod Cells
+pub mod Draws
+pub mod Verdicts
+pub mod Walks

@@ -1,0 +1,67 @@
+// A region with its ends in the grid, and its box. A flat region is the one layer with z index 0.
+use fixed::clause::Bounds;
+use fixed::span::Span;
+use picture::grid::Grid;
+use picture::grid::sample;
+ghost use mathlib.Core.Path.{_≡_};
+ghost use Prim.Native.Nat.{_≤_};
+ghost use Rattle.rules.specs.Drawings.{region, sizeLimit, lesser as lesserOf};
+ghost use Rattle.fixed.specs.Shapes.{boxIn, rangeIn};
+ghost use Rattle.walk.specs.Cells.{Small, InGrid, CellOf, SpanIn, spanOf, SpansIn, boxAt};
+
+// First index and past the last one on each axis, cut off at the grid's edge, and the side before that.
+pub struct Cell {
+    pub x: u32,
+    pub xend: u32,
+    pub y: u32,
+    pub yend: u32,
+    pub z: u32,
+    pub zend: u32,
+    pub side: u32,
+}
+
+pub fn lesser(a: u32, b: u32) -> u32
+    ensures { λ r. ⌜ r ≡ lesserOf a b ⌝ }
+{
+    if a <= b { a } else { b }
+}
+
+// `layers` is the grid's depth in a solid, and 1 in a flat drawing.
+pub fn cell_at(grid: Grid, layers: u32, x: u32, y: u32, z: u32, side: u32) -> Cell
+    requires { ⌜ Small layers grid ⌝ }
+    requires { ⌜ InGrid layers grid x y z ⌝ }
+    requires { ⌜ (1 ≤ side) × (side ≤ sizeLimit) ⌝ }
+    ensures { λ r. ⌜ CellOf layers grid (region x y z side) r ⌝ }
+{
+    Cell {
+        x: x,
+        xend: lesser(grid.width, x + side),
+        y: y,
+        yend: lesser(grid.height, y + side),
+        z: z,
+        zend: lesser(layers, z + side),
+        side: side,
+    }
+}
+
+// The samples of an axis from the index `from` to the one before `end`.
+fn span(first: i32, step: i32, from: u32, end: u32) -> Span
+    requires { ⌜ SpanIn first step from end ⌝ }
+    ensures { λ r. ⌜ rangeIn r ≡ spanOf first step from end ⌝ }
+{
+    Span {
+        low: sample(first, step, from),
+        high: sample(first, step, end - 1),
+    }
+}
+
+pub fn bounds(grid: Grid, c: Cell) -> Bounds
+    requires { ⌜ SpansIn grid c ⌝ }
+    ensures { λ r. ⌜ boxIn r ≡ boxAt grid c ⌝ }
+{
+    Bounds {
+        xs: span(grid.xfirst, grid.xstep, c.x, c.xend),
+        ys: span(grid.yfirst, grid.ystep, c.y, c.yend),
+        zs: span(grid.zfirst, grid.zstep, c.z, c.zend),
+    }
+}
