@@ -9,9 +9,9 @@ use Rattle.rules.proofs.Words.{read, back}
 use Rattle.picture.specs.Shapes.{gridIn}
 use Rattle.picture.proofs.GridWords.{InWords, in-words}
 use Rattle.walk.proofs.Signs.{sign}
-use Rattle.walk.proofs.CellLaws.{small, z-value}
+use Rattle.walk.proofs.CellLaws.{small}
 use Rattle.walk.proofs.LookLaws.{sound-runs}
-use Rattle.solid_tiles.proofs.SampleLaws.{at-words, pixel-most, pixel-in, x-value, y-value, sample-same, sample-ok, sample-hidden, sample-skips, sample-fills}
+use Rattle.solid_tiles.proofs.SampleLaws.{at-words, pixel-most, pixel-in, x-value, y-value, z-value, sample-same, sample-ok, sample-hidden, sample-skips, sample-fills}
 use borrow.Author.Needs.{needs}
 use Rattle.solid_tiles.proofs.samples.visit_sample.Statement.{statement}
 use Rattle.solid_tiles.proofs.samples.visit_sample.Tie as tie
@@ -91,7 +91,7 @@ sample-requires-3 : tie.Need-sample-requires-3
 sample-requires-3 c κs =
     let s = c .before .before .before .before .before .before .before .before .before .before .before .before .before in
     let f = told (c .before .before .before .before .before .before .before) in
-    rw (at-words _ (f .zfirst) (f .zstep)) (z-value true _ (s .pre .1 .0 .fault) _ (s .pre .1 .1 .z-in))
+    rw (at-words _ (f .zfirst) (f .zstep)) (z-value _ _ _ _ (s .pre .1 .1) (s .pre .1 .0 .fault))
 
 run-values-requires : tie.Need-run-values-requires
 run-values-requires c κs =
