@@ -43,11 +43,12 @@ fn row_byte(code: &[u64], grid: Grid, parent: Cell, y: u32) -> u8
     ensures { λ r. ⌜ ((n : ℕ) → Accepted (tapeIn n (now (code .entry)))
         → r ≡ rowByte (materials (parent .xend - parent .x) (tapeIn n (now (code .entry))) (gridIn grid false) (parent .x) y)) ⌝ }
 {
+    let from = parent.x;
     let mut byte = 0u8;
-    let mut x = parent.x;
+    let mut x = from;
     while x < parent.xend {
         let value = run_values(code, sample_at(grid, x, y));
-        byte = with_pixel(byte, x - parent.x, value < 0);
+        byte = with_pixel(byte, x - from, value < 0);
         x += 1;
     }
     byte

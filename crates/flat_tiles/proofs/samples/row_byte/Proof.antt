@@ -11,7 +11,6 @@ use Rattle.code.specs.Words.{tapeIn}
 use Rattle.picture.specs.Bits.{rowByte}
 use Rattle.picture.specs.Shapes.{gridIn}
 use Rattle.picture.specs.declared.grid.Grid.{Grid}
-use Rattle.walk.proofs.CellLaws.{child-in}
 use Rattle.walk.proofs.LookLaws.{sound-runs, fit-of}
 use Rattle.walk.proofs.Signs.{sign}
 use Rattle.flat_tiles.specs.Rows.{materials}
@@ -30,10 +29,10 @@ all-so-far : {ws : List ℕ} {grid : Grid} {from end y made x : ℕ} → RowSoFa
 all-so-far {end = end} {x = x} r h n a = let e : x ≡ end = omega (arith, r .under) in rw e at (r .byte n a)
 
 abbrev Inv-loop : tie.InvT-loop
-Inv-loop code grid parent y byte₀ x₀ byte x = RowSoFar code grid (parent .x) (parent .xend) y byte x
+Inv-loop code grid parent y from byte₀ x₀ byte x = RowSoFar code grid (parent .x) (parent .xend) y byte x
 
 abbrev μ-loop : tie.MeasureT-loop
-μ-loop code grid parent y byte₀ x₀ byte x = parent .xend - x
+μ-loop code grid parent y from byte₀ x₀ byte x = parent .xend - x
 
 -- The places: before the loop, at its test, in a turn, after the run, and past the loop.
 abbrev start : tie.At-loop Inv-loop μ-loop → tie.Start Inv-loop μ-loop
@@ -43,7 +42,7 @@ abbrev at-test : tie.Then1 Inv-loop μ-loop → tie.At-loop Inv-loop μ-loop
 at-test c = c .before .before
 
 abbrev run : tie.After-with-pixel Inv-loop μ-loop → tie.After-run-values Inv-loop μ-loop
-run c = c .before .before
+run c = c .before
 
 abbrev in-turn : tie.After-run-values Inv-loop μ-loop → tie.Then1 Inv-loop μ-loop
 in-turn c = c .before .before
@@ -59,17 +58,18 @@ loop-holds c =
 sample-at-requires : tie.Need-sample-at-requires Inv-loop μ-loop
 sample-at-requires c κs =
     let p = start (at-test c) .pre .1 in
-    (p .0, child-in _ _ _ (p .1 .0) (c .if1 .taken) (p .1 .1 .1) (omega (arith, p .1 .0 .zs)))
+    let k = p .1 .0 in
+    (p .0, record { x-in = omega (arith, k .xs, c .if1 .taken); y-in = omega (arith, k .ys, p .1 .1 .1); z-in = omega arith })
 
 run-values-requires : tie.Need-run-values-requires Inv-loop μ-loop
 run-values-requires c κs = (sound-runs (start (at-test (c .before)) .pre .0), c .sample-at .ensures .1)
 
 sub-with-pixel : tie.Need-sub-with-pixel Inv-loop μ-loop
-sub-with-pixel c = omega (arith, at-test (in-turn (c .before)) .loop .inv .above)
+sub-with-pixel c = omega (arith, at-test (in-turn c) .loop .inv .above)
 
 with-pixel-requires : tie.Need-with-pixel-requires Inv-loop μ-loop
 with-pixel-requires c κs =
-    let t = in-turn (c .before) in
+    let t = in-turn c in
     let p = start (at-test t) .pre .1 .1 in
     omega (arith, t .if1 .taken, p .0 .xs, p .1 .0)
 
