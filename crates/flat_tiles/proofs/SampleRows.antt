@@ -3,7 +3,7 @@ use mathlib.Core.Path.{_≡_, refl, sym, ap, _∙_}
 use mathlib.Core.Bool.{Bool, true, false}
 use mathlib.Core.List.{List, [], _∷_, _++_}
 use Prim.Native.Nat.{ℕ, zero, suc, _+_, _-_, _*_, _≤_, _<_}
-use native.Mathlib.Nat.{add-zero, sub-self, add-sub-cancel-left}
+use native.Mathlib.Nat.{add-zero, sub-self, add-sub-cancel-left, mul-le-mul-right}
 use native.Mathlib.Omega.{arith}
 use lib.ListN.{length}
 use Rattle.rules.specs.Values.{pick}
@@ -14,10 +14,21 @@ use Rattle.rules.specs.Accepted.{Accepted}
 use Rattle.code.specs.Words.{tapeIn}
 use Rattle.code.proofs.WordTapes.{length-clauses}
 use Rattle.picture.specs.Bits.{rowByteFrom, rowByte, markRow, Shows}
+use Rattle.picture.specs.Shapes.{gridIn}
 use Rattle.picture.specs.declared.grid.Grid.{Grid}
+use Rattle.walk.specs.Cells.{CellOk}
+use Rattle.walk.specs.Walks.{Folds}
+use Rattle.walk.specs.declared.cell.Cell.{Cell}
 use Rattle.walk.proofs.Children.{part-one, rowLeft, row-start, row-step, row-end}
 use Rattle.walk.proofs.Draws.{draws-same}
-use Rattle.flat_tiles.specs.Flats.{flatIn, Block, materials, visits, Drawn}
+use Rattle.flat_tiles.specs.Rows.{materials}
+
+abbrev flatIn : Grid → D.Grid
+flatIn grid = gridIn grid false
+
+-- Samples visited in turn.
+abbrev visits : Grid → List D.Region → Tape → D.State → D.State
+visits grid qs t = D.fold (λ q s. D.visit [] t (flatIn grid) q s) qs
 
 module _ (t : Tape) (g : D.Grid) (y : ℕ) where
   pub materials-length : (m x : ℕ) → length (materials m t g x y) ≡ m
@@ -76,7 +87,7 @@ module _ (t : Tape) (grid : Grid) (y : ℕ) (l : y < grid .height) where
       by-case false = refl
 
   pub row-sampled : (m x px : ℕ) → px ≡ x + m → px ≤ grid .width → (s : D.State)
-      → visits [] grid (rowLeft x y 0 1 px) t s
+      → visits grid (rowLeft x y 0 1 px) t s
       ≡ sampled m t (y * grid .width + x) (materials m t (flatIn grid) x y) s
   unfolding D.fold materials markRow
   row-sampled zero x px e k s =
@@ -89,33 +100,37 @@ module _ (t : Tape) (grid : Grid) (y : ℕ) (l : y < grid .height) where
       let u : x + 1 ≡ suc x = omega arith in
       let v : y * grid .width + suc x ≡ suc p = omega arith in
       let w : s .clauses + n + m * n ≡ s .clauses + suc m * n = omega arith in
-      ap (λ qs. visits [] grid qs t s) (row-step y 0 1 px (omega arith) x (omega arith))
-      ∙ ap (λ z. visits [] grid (rowLeft (x + 1) y 0 1 px) t z) (one-sample x (omega arith) s)
-      ∙ ap (λ i. visits [] grid (rowLeft i y 0 1 px) t (D.state h (s .clauses + n))) u
+      ap (λ qs. visits grid qs t s) (row-step y 0 1 px (omega arith) x (omega arith))
+      ∙ ap (λ z. visits grid (rowLeft (x + 1) y 0 1 px) t z) (one-sample x (omega arith) s)
+      ∙ ap (λ i. visits grid (rowLeft i y 0 1 px) t (D.state h (s .clauses + n))) u
       ∙ row-sampled m (suc x) px (omega arith) k (D.state h (s .clauses + n))
       ∙ ap (λ q. D.state (markRow q (materials m t (flatIn grid) (suc x) y) h) (s .clauses + n + m * n)) v
       ∙ ap (λ c. D.state (markRow (suc p) (materials m t (flatIn grid) (suc x) y) h) c) w
 
 -- A row of a region of side 8, by its byte and what painting the byte does.
-module _ (grid : Grid) (ws : List ℕ) (x xend y byte : ℕ) {b b′ : List ℕ} (k : Block grid 8 x xend y (y + 1)) where
-  pub row-drawn : ((n : ℕ) → Accepted (tapeIn n ws) → byte ≡ rowByte (materials (xend - x) (tapeIn n ws) (flatIn grid) x y))
-      → ((n : ℕ) (h : List ℕ) (bs : List Bool) → length bs ≤ 8 → x + length bs ≤ grid .width → byte ≡ rowByte bs
-      → Shows (grid .width) n b h → Shows (grid .width) n b′ (markRow (y * grid .width + x) bs h))
-      → Drawn grid ws (visits [] grid (D.alongX 8 x y 0 1 xend)) b b′ ((xend - x) * length ws)
-  row-drawn e f =
+module _ {grid : Grid} {c : Cell} (k : CellOk 1 grid c) (eight : c .side ≡ 8) where
+  row-wide : c .xend - c .x ≤ 8
+  row-wide = omega (arith, k .xs, eight)
+
+  pub row-folds : (ws : List ℕ) (y byte : ℕ) {b b′ : List ℕ} → y < c .yend
+      → ((n : ℕ) → Accepted (tapeIn n ws) → byte ≡ rowByte (materials (c .xend - c .x) (tapeIn n ws) (flatIn grid) (c .x) y))
+      → ((n : ℕ) (h : List ℕ) (bs : List Bool) → length bs ≤ 8 → c .x + length bs ≤ grid .width → byte ≡ rowByte bs
+      → Shows (grid .width) n b h → Shows (grid .width) n b′ (markRow (y * grid .width + c .x) bs h))
+      → Folds false 8 ws grid [] (D.alongX 8 (c .x) y 0 1 (c .xend)) b b′ ((c .xend - c .x) * length ws)
+  row-folds ws y byte l e f =
       record {
-        draws =
-            λ n a.
+        draws = λ n a.
             let t = tapeIn n ws in
-            let m = xend - x in
-            let bs = materials m t (flatIn grid) x y in
-            let l = materials-length t (flatIn grid) y m x in
-            draws-same {f = sampled m t (y * grid .width + x) bs}
+            let m = c .xend - c .x in
+            let bs = materials m t (flatIn grid) (c .x) y in
+            let w = materials-length t (flatIn grid) y m (c .x) in
+            draws-same {f = sampled m t (y * grid .width + c .x) bs}
             (λ s h.
-            ap (λ qs. visits [] grid qs t s) (row-start y 0 1 xend (omega arith) 8 x (omega (arith, k .wide)))
-            ∙ row-sampled t grid y (omega (arith, k .part .rows)) m x xend (omega (arith, k .part .some-column)) (k .part .columns) s)
+            ap (λ qs. visits grid qs t s) (row-start y 0 1 (c .xend) (omega arith) 8 (c .x) (omega (arith, k .xs, eight)))
+            ∙ row-sampled t grid y (omega (arith, l, k .ys)) m (c .x) (c .xend) (omega (arith, k .xs)) (k .xs .in-grid) s)
             (record {
-              shown = λ s h. f (grid .height) (s .heights) bs (omega (arith, l, k .wide)) (omega (arith, l, k .part .columns, k .part .some-column)) (e n a) h;
-              count = λ s h. ap (λ c. s .clauses + m * c) (length-clauses ws);
+              shown = λ s h. f (grid .height) (s .heights) bs (omega (arith, w, row-wide)) (omega (arith, w, k .xs)) (e n a) h;
+              count = λ s h. ap (λ v. s .clauses + m * v) (length-clauses ws);
             });
+        bound = mul-le-mul-right (length ws) row-wide;
       }

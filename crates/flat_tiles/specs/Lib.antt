@@ -1,3 +1,4 @@
--- What the functions of the flat drawing by tiles are held to.
-pub mod Flats
-pub mod Verdicts
+-- What the functions of the flat drawing by tiles are held to, besides the walk's.
+pub mod Sides
+pub mod Rows
+pub mod Rects

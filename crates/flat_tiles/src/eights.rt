@@ -1,16 +1,20 @@
-// Regions of side 8: run over ranges, then filled, left, or run at each sample with the short tape.
+// Side 8: the regions of side 8 in a tile.
 use crate::look::look;
-use crate::region::lesser;
 use crate::samples::sample_rows;
-use crate::verdict::Verdict;
 use picture::grid::Grid;
-ghost use mathlib.Core.List.{[], _∷_};
-ghost use Prim.Native.Nat.{_+_, _≤_};
+use walk::cell::Cell;
+use walk::cell::cell_at;
+use walk::look::Seen;
+ghost use mathlib.Core.Path.{_≡_};
+ghost use mathlib.Core.Bool.{false};
+ghost use Prim.Native.Nat.{_*_, _%_, _<_, _≤_};
 ghost use lib.ListN.{length};
-ghost use Rattle.rules.specs.Drawings.{region, visit, alongX, alongY};
-ghost use Rattle.flat_tiles.specs.Flats.{flatIn, Given, Block, Begins, visits, Drawn};
+ghost use Rattle.rules.specs.Drawings.{region, alongX, alongY};
+ghost use Rattle.walk.specs.Cells.{Ready, InGrid, CellOk};
+ghost use Rattle.walk.specs.Walks.{Sound, Visits, Folds};
+ghost use Rattle.flat_tiles.specs.Sides.{below8};
 
-// One region, with the tape that it has: its tile's short one.
+// At most 65 runs: the region and 64 samples.
 fn visit_eight(
     code: &[u64],
     grid: Grid,
@@ -18,23 +22,24 @@ fn visit_eight(
     y: u32,
     picture: &mut [u8],
     choices: &mut [u8],
-    next: &mut [u64],
+    second: &mut [u64],
 ) -> u64
-    requires { ⌜ Given (now code) grid (now picture) ⌝ }
-    requires { ⌜ Begins grid x y ⌝ }
-    requires { ⌜ (1024 ≤ length (now choices)) × (1024 ≤ length (now next)) ⌝ }
-    ensures { λ r. ⌜ Drawn grid (now (code .entry)) (λ t. visit (1 ∷ []) t (flatIn grid) (region x y 0 8)) (now (picture .entry)) (now (picture .exit)) r
-        × (r ≤ 66560) ⌝ }
+    requires { ⌜ Sound (now code) ⌝ }
+    requires { ⌜ Ready false grid (now picture) ⌝ }
+    requires { ⌜ InGrid 1 grid x y 0 ⌝ }
+    requires { ⌜ x % 8 ≡ 0 ⌝ }
+    requires { ⌜ (length (now code) ≤ length (now choices)) × (length (now code) ≤ length (now second)) ⌝ }
+    ensures { λ r. ⌜ Visits false 65 (now (code .entry)) grid below8 (region x y 0 8)
+        (now (picture .entry)) (now (picture .exit)) r ⌝ }
 {
-    let xend = lesser(grid.width, x + 8);
-    let yend = lesser(grid.height, y + 8);
-    let count = code.len() as u64;
-    match look(code, grid, x, xend, y, yend, picture, choices, next) {
-        Verdict::Full => count,
-        Verdict::Empty => count,
-        Verdict::Cut(start) => {
-            let short = &next[start..];
-            count + sample_rows(short, grid, x, xend, y, yend, picture)
+    let cell = cell_at(grid, 1, x, y, 0, 8);
+    let seen = look(code, grid, cell, picture, choices, second);
+    match seen {
+        Seen::Done(count) => count,
+        Seen::Open(start) => {
+            let short = &second[start..];
+            let inside = sample_rows(short, grid, cell, picture);
+            code.len() as u64 + inside
         }
     }
 }
@@ -42,24 +47,25 @@ fn visit_eight(
 fn eight_row(
     code: &[u64],
     grid: Grid,
-    x: u32,
-    xend: u32,
+    parent: Cell,
     y: u32,
     picture: &mut [u8],
     choices: &mut [u8],
-    next: &mut [u64],
+    second: &mut [u64],
 ) -> u64
-    requires { ⌜ Given (now code) grid (now picture) ⌝ }
-    requires { ⌜ Block grid 64 x xend y (y + 1) ⌝ }
-    requires { ⌜ (1024 ≤ length (now choices)) × (1024 ≤ length (now next)) ⌝ }
-    ensures { λ r. ⌜ Drawn grid (now (code .entry)) (visits (1 ∷ []) grid (alongX 8 x y 0 8 xend)) (now (picture .entry)) (now (picture .exit)) r
-        × (r ≤ 532480) ⌝ }
+    requires { ⌜ Sound (now code) ⌝ }
+    requires { ⌜ Ready false grid (now picture) ⌝ }
+    requires { ⌜ CellOk 1 grid parent ⌝ }
+    requires { ⌜ (parent .side ≡ 64) × (parent .x % 8 ≡ 0) × (y < parent .yend) ⌝ }
+    requires { ⌜ (length (now code) ≤ length (now choices)) × (length (now code) ≤ length (now second)) ⌝ }
+    ensures { λ r. ⌜ Folds false (8 * 65) (now (code .entry)) grid below8 (alongX 8 (parent .x) y 0 8 (parent .xend))
+        (now (picture .entry)) (now (picture .exit)) r ⌝ }
 {
     let mut count: u64 = 0;
-    let mut i = x;
-    while i < xend {
-        count += visit_eight(code, grid, i, y, picture, choices, next);
-        i += 8;
+    let mut x = parent.x;
+    while x < parent.xend {
+        count += visit_eight(code, grid, x, y, picture, choices, second);
+        x += 8;
     }
     count
 }
@@ -67,25 +73,25 @@ fn eight_row(
 pub fn eight_rows(
     code: &[u64],
     grid: Grid,
-    x: u32,
-    xend: u32,
-    y: u32,
-    yend: u32,
+    parent: Cell,
     picture: &mut [u8],
     choices: &mut [u8],
-    next: &mut [u64],
+    second: &mut [u64],
 ) -> u64
-    requires { ⌜ Given (now code) grid (now picture) ⌝ }
-    requires { ⌜ Block grid 64 x xend y yend ⌝ }
-    requires { ⌜ (1024 ≤ length (now choices)) × (1024 ≤ length (now next)) ⌝ }
-    ensures { λ r. ⌜ Drawn grid (now (code .entry)) (visits (1 ∷ []) grid (alongY 8 8 x y 0 8 xend yend)) (now (picture .entry)) (now (picture .exit)) r
-        × (r ≤ 4259840) ⌝ }
+    requires { ⌜ Sound (now code) ⌝ }
+    requires { ⌜ Ready false grid (now picture) ⌝ }
+    requires { ⌜ CellOk 1 grid parent ⌝ }
+    requires { ⌜ (parent .side ≡ 64) × (parent .x % 8 ≡ 0) ⌝ }
+    requires { ⌜ (length (now code) ≤ length (now choices)) × (length (now code) ≤ length (now second)) ⌝ }
+    ensures { λ r. ⌜ Folds false (64 * 65) (now (code .entry)) grid below8
+        (alongY 8 8 (parent .x) (parent .y) 0 8 (parent .xend) (parent .yend))
+        (now (picture .entry)) (now (picture .exit)) r ⌝ }
 {
     let mut count: u64 = 0;
-    let mut j = y;
-    while j < yend {
-        count += eight_row(code, grid, x, xend, j, picture, choices, next);
-        j += 8;
+    let mut y = parent.y;
+    while y < parent.yend {
+        count += eight_row(code, grid, parent, y, picture, choices, second);
+        y += 8;
     }
     count
 }

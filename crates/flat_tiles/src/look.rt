@@ -1,46 +1,61 @@
-// What the sides 64 and 8 share: a region run over ranges, and filled where there is material everywhere.
-use crate::region::bounds;
-use crate::verdict::Verdict;
-use crate::verdict::judge;
+// What the sides 64 and 8 share: a region's range and its filling.
+use code::run::run_ranges;
+use code::shorten::shorten;
 use picture::bits::fill_rect;
 use picture::grid::Grid;
+use walk::cell::Cell;
+use walk::cell::flat_bounds;
+use walk::look::Seen;
+use walk::verdict::Verdict;
+use walk::verdict::verdict_on;
 ghost use mathlib.Core.Path.{_≡_};
-ghost use Prim.Native.Nat.{ℕ, _+_, _≤_};
+ghost use mathlib.Core.Bool.{false};
+ghost use Prim.Native.Nat.{_%_, _≤_};
 ghost use lib.ListN.{length};
-ghost use Rattle.rules.specs.Drawings.{lesser as lesserOf, region};
-ghost use Rattle.flat_tiles.specs.Flats.{Given, Block, Looked};
+ghost use Rattle.picture.specs.Shapes.{gridIn};
+ghost use Rattle.walk.specs.Cells.{Ready, CellOk, regionIn};
+ghost use Rattle.walk.specs.Draws.{Fills};
+ghost use Rattle.walk.specs.Walks.{Sound, Shown, Looked};
 
-// Where it is cut, the picture is as it was, and the short tape's words start there in `next`.
+fn fill(grid: Grid, c: Cell, picture: &mut [u8])
+    requires { ⌜ Ready false grid (now picture) ⌝ }
+    requires { ⌜ CellOk 1 grid c ⌝ }
+    requires { ⌜ c .x % 8 ≡ 0 ⌝ }
+    ensures { λ _. ⌜ Fills (Shown false grid) (gridIn grid false) (regionIn c) (now (picture .entry)) (now (picture .exit)) ⌝ }
+{
+    fill_rect(
+        picture,
+        grid.width as usize,
+        c.x as usize,
+        c.y as usize,
+        c.xend as usize,
+        c.yend as usize,
+    );
+}
+
 pub fn look(
     code: &[u64],
     grid: Grid,
-    x: u32,
-    xend: u32,
-    y: u32,
-    yend: u32,
+    c: Cell,
     picture: &mut [u8],
     choices: &mut [u8],
     next: &mut [u64],
-) -> Verdict
-    requires { ⌜ Given (now code) grid (now picture) ⌝ }
-    requires { ⌜ Block grid 64 x xend y yend ⌝ }
-    requires { ⌜ (1024 ≤ length (now choices)) × (1024 ≤ length (now next)) ⌝ }
-    ensures { λ r. ⌜ ((side : ℕ) → xend ≡ lesserOf (grid .width) (x + side) → yend ≡ lesserOf (grid .height) (y + side)
-        → Looked grid (now (code .entry)) (region x y 0 side) (now (picture .entry)) (now (picture .exit)) (now (next .exit)) r) ⌝ }
+) -> Seen
+    requires { ⌜ Sound (now code) ⌝ }
+    requires { ⌜ Ready false grid (now picture) ⌝ }
+    requires { ⌜ CellOk 1 grid c ⌝ }
+    requires { ⌜ c .x % 8 ≡ 0 ⌝ }
+    requires { ⌜ (length (now code) ≤ length (now choices)) × (length (now code) ≤ length (now next)) ⌝ }
+    ensures { λ r. ⌜ Looked false (now (code .entry)) grid (regionIn c) (now (picture .entry)) (now (picture .exit))
+        (now (next .exit)) r ⌝ }
 {
-    match judge(code, bounds(grid, x, xend, y, yend), choices, next) {
+    let range = run_ranges(code, flat_bounds(grid, c), choices);
+    match verdict_on(range) {
         Verdict::Full => {
-            fill_rect(
-                picture,
-                grid.width as usize,
-                x as usize,
-                y as usize,
-                xend as usize,
-                yend as usize,
-            );
-            Verdict::Full
+            fill(grid, c, picture);
+            Seen::Done(code.len() as u64)
         }
-        Verdict::Empty => Verdict::Empty,
-        Verdict::Cut(start) => Verdict::Cut(start),
+        Verdict::Empty => Seen::Done(code.len() as u64),
+        Verdict::Mixed => Seen::Open(shorten(code, choices, next)),
     }
 }

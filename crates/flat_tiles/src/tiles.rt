@@ -1,21 +1,22 @@
-// Regions of side 64, and the whole flat drawing by tiles.
+// Side 64: the tiles of a rectangle, and the whole drawing.
 use crate::eights::eight_rows;
 use crate::look::look;
-use crate::region::lesser;
-use crate::verdict::Verdict;
 use picture::bits::clear;
 use picture::grid::Grid;
+use tape::CLAUSE_LIMIT;
+use walk::cell::cell_at;
+use walk::look::Seen;
 ghost use mathlib.Core.Path.{_≡_};
 ghost use mathlib.Core.Bool.{false};
-ghost use mathlib.Core.List.{[], _∷_};
-ghost use Prim.Native.Nat.{_+_, _*_, _≤_};
+ghost use Prim.Native.Nat.{_*_, _%_, _<_, _≤_};
 ghost use lib.ListN.{length};
-ghost use Rattle.rules.specs.Drawings.{gridFault, region, visit, alongX, alongY};
-ghost use Rattle.rules.specs.Pictures.{stride};
-ghost use Rattle.walk.specs.Walks.{Sound};
-ghost use Rattle.flat_tiles.specs.Flats.{flatIn, Given, Begins, visits, Drawn, Walked};
+ghost use Rattle.rules.specs.Drawings.{flatBound, region, alongX, alongY};
+ghost use Rattle.walk.specs.Cells.{Ready, InGrid};
+ghost use Rattle.walk.specs.Walks.{Sound, Visits, Folds, Walked};
+ghost use Rattle.flat_tiles.specs.Rects.{RectIn};
+ghost use Rattle.flat_tiles.specs.Sides.{below64};
 
-// One tile, with the whole tape; its short tape goes to `first`, those of its regions of side 8 to `second`.
+// At most 4,161 runs: the tile, 64 of side 8 and 4,096 samples.
 fn visit_tile(
     code: &[u64],
     grid: Grid,
@@ -26,44 +27,57 @@ fn visit_tile(
     first: &mut [u64],
     second: &mut [u64],
 ) -> u64
-    requires { ⌜ Given (now code) grid (now picture) ⌝ }
-    requires { ⌜ Begins grid x y ⌝ }
-    requires { ⌜ (1024 ≤ length (now choices)) × ((1024 ≤ length (now first)) × (1024 ≤ length (now second))) ⌝ }
-    ensures { λ r. ⌜ Drawn grid (now (code .entry)) (λ t. visit (8 ∷ (1 ∷ [])) t (flatIn grid) (region x y 0 64)) (now (picture .entry)) (now (picture .exit)) r
-        × (r ≤ 4260864) ⌝ }
+    requires { ⌜ Sound (now code) ⌝ }
+    requires { ⌜ Ready false grid (now picture) ⌝ }
+    requires { ⌜ InGrid 1 grid x y 0 ⌝ }
+    requires { ⌜ x % 8 ≡ 0 ⌝ }
+    requires { ⌜ (length (now code) ≤ length (now choices)) × (length (now code) ≤ length (now first))
+        × (length (now code) ≤ length (now second)) ⌝ }
+    ensures { λ r. ⌜ Visits false flatBound (now (code .entry)) grid below64 (region x y 0 64)
+        (now (picture .entry)) (now (picture .exit)) r ⌝ }
 {
-    let xend = lesser(grid.width, x + 64);
-    let yend = lesser(grid.height, y + 64);
-    let count = code.len() as u64;
-    match look(code, grid, x, xend, y, yend, picture, choices, first) {
-        Verdict::Full => count,
-        Verdict::Empty => count,
-        Verdict::Cut(start) => {
+    let cell = cell_at(grid, 1, x, y, 0, 64);
+    let seen = look(code, grid, cell, picture, choices, first);
+    match seen {
+        Seen::Done(count) => count,
+        Seen::Open(start) => {
             let short = &first[start..];
-            count + eight_rows(short, grid, x, xend, y, yend, picture, choices, second)
+            let inside = eight_rows(short, grid, cell, picture, choices, second);
+            code.len() as u64 + inside
         }
     }
+}
+
+// Columns and rows of the grid, of each the first and the one past the last. Its tiles begin at the first ones.
+pub struct Rect {
+    pub x: u32,
+    pub xend: u32,
+    pub y: u32,
+    pub yend: u32,
 }
 
 fn tile_row(
     code: &[u64],
     grid: Grid,
+    rect: Rect,
     y: u32,
     picture: &mut [u8],
     choices: &mut [u8],
     first: &mut [u64],
     second: &mut [u64],
 ) -> u64
-    requires { ⌜ Given (now code) grid (now picture) ⌝ }
-    requires { ⌜ Begins grid 0 y ⌝ }
-    requires { ⌜ (1024 ≤ length (now choices)) × ((1024 ≤ length (now first)) × (1024 ≤ length (now second))) ⌝ }
-    ensures { λ r. ⌜ Drawn grid (now (code .entry)) (visits (8 ∷ (1 ∷ [])) grid (alongX 8 0 y 0 64 (grid .width))) (now (picture .entry)) (now (picture .exit)) r
-        × (r ≤ 34086912) ⌝ }
+    requires { ⌜ Sound (now code) ⌝ }
+    requires { ⌜ Ready false grid (now picture) ⌝ }
+    requires { ⌜ RectIn grid rect ⌝ }
+    requires { ⌜ y < rect .yend ⌝ }
+    requires { ⌜ (length (now code) ≤ length (now choices)) × (length (now code) ≤ length (now first))
+        × (length (now code) ≤ length (now second)) ⌝ }
+    ensures { λ r. ⌜ Folds false (8 * flatBound) (now (code .entry)) grid below64 (alongX 8 (rect .x) y 0 64 (rect .xend))
+        (now (picture .entry)) (now (picture .exit)) r ⌝ }
 {
-    let width = grid.width;
     let mut count: u64 = 0;
-    let mut x: u32 = 0;
-    while x < width {
+    let mut x = rect.x;
+    while x < rect.xend {
         count += visit_tile(code, grid, x, y, picture, choices, first, second);
         x += 64;
     }
@@ -73,37 +87,57 @@ fn tile_row(
 fn tile_rows(
     code: &[u64],
     grid: Grid,
+    rect: Rect,
     picture: &mut [u8],
     choices: &mut [u8],
     first: &mut [u64],
     second: &mut [u64],
 ) -> u64
-    requires { ⌜ Given (now code) grid (now picture) ⌝ }
-    requires { ⌜ 1 ≤ grid .width ⌝ }
-    requires { ⌜ (1024 ≤ length (now choices)) × ((1024 ≤ length (now first)) × (1024 ≤ length (now second))) ⌝ }
-    ensures { λ r. ⌜ Drawn grid (now (code .entry)) (visits (8 ∷ (1 ∷ [])) grid (alongY 8 8 0 0 0 64 (grid .width) (grid .height))) (now (picture .entry)) (now (picture .exit)) r ⌝ }
+    requires { ⌜ Sound (now code) ⌝ }
+    requires { ⌜ Ready false grid (now picture) ⌝ }
+    requires { ⌜ RectIn grid rect ⌝ }
+    requires { ⌜ (length (now code) ≤ length (now choices)) × (length (now code) ≤ length (now first))
+        × (length (now code) ≤ length (now second)) ⌝ }
+    ensures { λ r. ⌜ Folds false (64 * flatBound) (now (code .entry)) grid below64
+        (alongY 8 8 (rect .x) (rect .y) 0 64 (rect .xend) (rect .yend)) (now (picture .entry)) (now (picture .exit)) r ⌝ }
 {
-    let height = grid.height;
     let mut count: u64 = 0;
-    let mut y: u32 = 0;
-    while y < height {
-        count += tile_row(code, grid, y, picture, choices, first, second);
+    let mut y = rect.y;
+    while y < rect.yend {
+        count += tile_row(code, grid, rect, y, picture, choices, first, second);
         y += 64;
     }
     count
 }
 
-// The flat drawing by tiles of the words of an accepted tape, with the walk's count. The picture is cleared first; the
-// choices and the words of the two levels are room to work in.
+// The tiles of a rectangle, onto what the picture shows. The level buffers are made here, once a call: a short tape is no
+// longer than the tape.
+pub fn tiles_in(code: &[u64], grid: Grid, rect: Rect, picture: &mut [u8], choices: &mut [u8]) -> u64
+    requires { ⌜ Sound (now code) ⌝ }
+    requires { ⌜ Ready false grid (now picture) ⌝ }
+    requires { ⌜ RectIn grid rect ⌝ }
+    requires { ⌜ length (now code) ≤ length (now choices) ⌝ }
+    ensures { λ r. ⌜ Folds false (64 * flatBound) (now (code .entry)) grid below64
+        (alongY 8 8 (rect .x) (rect .y) 0 64 (rect .xend) (rect .yend)) (now (picture .entry)) (now (picture .exit)) r ⌝ }
+{
+    let mut first = [0u64; CLAUSE_LIMIT];
+    let mut second = [0u64; CLAUSE_LIMIT];
+    tile_rows(code, grid, rect, picture, choices, &mut first, &mut second)
+}
+
+// The whole drawing, whatever the picture held.
 pub fn tile_flat(code: &[u64], grid: Grid, picture: &mut [u8], choices: &mut [u8]) -> u64
     requires { ⌜ Sound (now code) ⌝ }
-    requires { ⌜ gridFault false (flatIn grid) ≡ 0 ⌝ }
-    requires { ⌜ length (now picture) ≡ grid .height * stride (grid .width) ⌝ }
-    requires { ⌜ 1024 ≤ length (now choices) ⌝ }
-    ensures { λ r. ⌜ Walked grid (now (code .entry)) (now (picture .exit)) r ⌝ }
+    requires { ⌜ Ready false grid (now picture) ⌝ }
+    requires { ⌜ length (now code) ≤ length (now choices) ⌝ }
+    ensures { λ r. ⌜ Walked false (now (code .entry)) grid (now (picture .exit)) r ⌝ }
 {
     clear(picture);
-    let mut first = [0u64; 1024];
-    let mut second = [0u64; 1024];
-    tile_rows(code, grid, picture, choices, &mut first, &mut second)
+    let all = Rect {
+        x: 0,
+        xend: grid.width,
+        y: 0,
+        yend: grid.height,
+    };
+    tiles_in(code, grid, all, picture, choices)
 }

@@ -1,6 +1,6 @@
 -- The calls that draw by tiles: refused by a check, refused for the work buffer, or done.
-use mathlib.Core.Path.{_≡_, refl, sym, ap, _∙_}
-use mathlib.Core.Bool.{Bool, true, false}
+use mathlib.Core.Path.{_≡_, sym, ap, _∙_}
+use mathlib.Core.Bool.{Bool, false}
 use mathlib.Core.List.{List}
 use Prim.Native.Nat.{ℕ, _≤_, _<_}
 use lib.Dec.{eqb, ltb}
@@ -9,7 +9,7 @@ use borrow.Author.Tests.{ne-eqb, eq-eqb, lt-ltb, le-ltb}
 use Rattle.rules.specs.Values.{pick, firstOf, when}
 use Rattle.rules.specs.Tapes.{readTape}
 use Rattle.rules.specs.Drawings as D
-use Rattle.rules.specs.Pictures.{bitsOf, picture}
+use Rattle.rules.specs.Pictures.{picture}
 use Rattle.rules.specs.Accepted.{Accepted}
 use Rattle.code.specs.Words.{tapeIn}
 use Rattle.code.proofs.WordTapes.{unpacked-tape}
@@ -26,11 +26,6 @@ use Rattle.layers.proofs.Drawing.{ready, words-accepted}
 pub record Walks (isSolid : Bool) (ws : List ℕ) (g : D.Grid) (o : List ℕ) (c : ℕ) : Type 0 where
   pub pixels : (n : ℕ) → Accepted (tapeIn n ws) → o ≡ picture isSolid g (D.walked (tapeIn n ws) g .heights)
   pub count : (n : ℕ) → Accepted (tapeIn n ws) → c ≡ D.walked (tapeIn n ws) g .clauses
-
--- A flat picture's bytes.
-pub flat-picture : (g : D.Grid) (h : List ℕ) → bitsOf (g .width) (g .height) h ≡ picture false g h
-unfolding picture
-flat-picture g h = refl
 
 -- The words are those of an accepted tape.
 pub sound : {t : Bool} {s ws ws′ : List ℕ} {g : D.Grid} {n : ℕ} {q : Prepared} → Prepares t s g n ws ws′ q → q .number ≡ 0

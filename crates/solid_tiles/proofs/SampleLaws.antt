@@ -28,7 +28,7 @@ use Rattle.walk.specs.Walks.{Sound, Visits}
 use Rattle.walk.proofs.Draws.{hidden-same, draws-count, draws-hidden, draws-sample-full, draws-sample-empty}
 use Rattle.walk.proofs.Rows.{hidden-sample, fill-sample, raises-same}
 use Rattle.walk.proofs.Children.{part-one}
-use Rattle.walk.proofs.CellLaws.{small, kind, z-value}
+use Rattle.walk.proofs.CellLaws.{small, kind}
 use Rattle.walk.proofs.LookLaws.{fit-of}
 use Rattle.solid_tiles.proofs.CellRows.{index-most}
 
@@ -54,6 +54,9 @@ module _ (grid : Grid) (x y z : ℕ) (i : InGrid (grid .depth) grid x y z) where
     pub y-value : IsValue (at (grid .yfirst) (grid .ystep) y)
     y-value = accepted grid true e .y-value y (i .y-in)
 
+    pub z-value : IsValue (at (grid .zfirst) (grid .zstep) z)
+    z-value = accepted grid true e .z-value refl z (i .z-in)
+
     -- The sample that the code makes.
     pub sample-same : (s : Sample) → s .x ≡ at (grid .xfirst) (grid .xstep) x → s .y ≡ at (grid .yfirst) (grid .ystep) y
         → s .z ≡ at (grid .zfirst) (grid .zstep) z → s ≡ sampleAt (gridIn grid true) x y z
@@ -67,7 +70,7 @@ module _ (grid : Grid) (x y z : ℕ) (i : InGrid (grid .depth) grid x y z) where
     pub sample-ok : (s : Sample) → s ≡ sampleAt (gridIn grid true) x y z → SampleOk s
     unfolding sampleAt
     sample-ok s h =
-        rw h (rw (kind true grid e) (record { x = x-value; y = y-value; z = z-value true grid e z (i .z-in) }))
+        rw h (rw (kind true grid e) (record { x = x-value; y = y-value; z = z-value }))
 
     past-z : pastZ (gridIn grid true) (region x y z 1) ≡ z + 1
     past-z = rw (kind true grid e) (part-one (grid .depth) z (i .z-in))

@@ -1,12 +1,13 @@
 // The part of a visit that every side but 1 shares: the test whether a region is hidden, its range, and its filling.
 use crate::cell::fill;
 use crate::cell::is_hidden;
+use code::run::run_ranges;
 use code::shorten::shorten;
 use picture::grid::Grid;
 use walk::cell::Cell;
+use walk::cell::solid_bounds;
 use walk::look::Seen;
 use walk::verdict::Verdict;
-use walk::verdict::cell_range;
 use walk::verdict::verdict_on;
 ghost use mathlib.Core.Bool.{true};
 ghost use Prim.Native.Nat.{_≤_};
@@ -32,7 +33,7 @@ pub fn look(
     if is_hidden(grid, c, picture) {
         return Seen::Done(0);
     }
-    let range = cell_range(code, grid, c, choices);
+    let range = run_ranges(code, solid_bounds(grid, c), choices);
     match verdict_on(range) {
         Verdict::Full => {
             fill(grid, c, picture);

@@ -1,26 +1,23 @@
 -- Cells, flat and solid: their ends, the samples of their axes, and their box.
 use mathlib.Core.Path.{_≡_, refl, sym, ap, _∙_}
 use mathlib.Core.Bool.{Bool, true, false}
+use mathlib.Core.List.{List}
 use Prim.Native.Nat.{ℕ, _+_, _-_, _*_, _≤_, _<_}
 use native.Mathlib.Omega.{arith}
-use lib.IntN.{ℤ, _+ℤ_, zero-*ℤ, +ℤ-idr}
+use lib.IntN.{ℤ}
 use mir.Syntax.{w32}
 use mir.Val.{SFits}
 use mir.Facts.{toZ-ofZ}
-use Rattle.rules.specs.Values.{pick, IsValue, Range, range, Box}
+use Rattle.rules.specs.Values.{pick, Range, range, Box}
 use Rattle.rules.specs.Drawings.{lesser, solid, at, pastZ, boxOf, gridFault, children, alongY, alongZ}
-use Rattle.rules.proofs.Words.{read, both}
-use Rattle.code.specs.Runs.{BoxOk}
+use Rattle.rules.proofs.Words.{read}
+use Rattle.code.specs.Runs.{EndsOk, BoxOk}
 use Rattle.picture.specs.Shapes.{gridIn}
 use Rattle.picture.specs.declared.grid.Grid.{Grid}
 use Rattle.picture.proofs.Grids.{accepted}
-use Rattle.walk.specs.Cells.{layersIn, Small, InGrid, Ends, CellOk, regionIn, SpanIn, spanOf, SpansIn, boxAt}
+use Rattle.walk.specs.Cells.{layersIn, Ready, Small, InGrid, Ends, CellOk, regionIn, SpanIn, spanOf, CellBox}
 use Rattle.walk.specs.declared.cell.Cell.{Cell}
 use Rattle.walk.proofs.Children.{part, children-rows, children-layers}
-
--- The first sample of an axis.
-at-first : (o s : ℤ) → at o s 0 ≡ o
-at-first o s = ap (λ v. o +ℤ v) (zero-*ℤ s) ∙ +ℤ-idr o
 
 -- What an accepted grid has: sizes within the limit, a first sample, and its kind.
 module _ (isSolid : Bool) (grid : Grid) (e : gridFault isSolid (gridIn grid isSolid) ≡ 0) where
@@ -41,13 +38,8 @@ module _ (isSolid : Bool) (grid : Grid) (e : gridFault isSolid (gridIn grid isSo
   pub kind : solid (gridIn grid isSolid) ≡ isSolid
   kind = sym (accepted grid isSolid e .kind)
 
-  z-values : (t : Bool) → isSolid ≡ t → (z : ℕ) → z < layersIn t grid → IsValue (at (grid .zfirst) (grid .zstep) z)
-  z-values true h z l = accepted grid isSolid e .z-value h z l
-  z-values false h z l =
-      let k : z ≡ 0 = omega arith in rw (k, at-first (grid .zfirst) (grid .zstep)) (accepted grid isSolid e .flat-z)
-
-  pub z-value : (z : ℕ) → z < layersIn isSolid grid → IsValue (at (grid .zfirst) (grid .zstep) z)
-  z-value = z-values isSolid refl
+pub ready-small : {isSolid : Bool} {grid : Grid} {b : List ℕ} → Ready isSolid grid b → Small (layersIn isSolid grid) grid
+ready-small {isSolid} {grid} r = small isSolid grid (r .fault)
 
 pub ends : (w i n e : ℕ) → e ≡ lesser w (i + n) → i < w → 1 ≤ n → Ends w i n e
 ends w i n e h l k =
@@ -67,76 +59,70 @@ module _ {f s : ℤ} (hf : SFits w32 f) (hs : SFits w32 s) where
   pub span-read : (a e : ℕ) {r : Range} → r ≡ spanOf (read w32 f) (read w32 s) a e → r ≡ spanOf f s a e
   span-read a e k = rw (toZ-ofZ {w = w32} {z = f} hf, toZ-ofZ {w = w32} {z = s} hs) at k
 
-pub boxes : {a b c d f g : Range} → a ≡ b → c ≡ d → f ≡ g
+-- The samples of a cell's axes are values.
+module _ (isSolid : Bool) (grid : Grid) (c : Cell) (k : CellOk (layersIn isSolid grid) grid c)
+    (e : gridFault isSolid (gridIn grid isSolid) ≡ 0) where
+  pub x-span : SpanIn (grid .xfirst) (grid .xstep) (c .x) (c .xend)
+  x-span =
+      let x = k .xs in record { some = x .some; values = λ i l. accepted grid isSolid e .x-value i (omega (arith, x, l)) }
+
+  pub y-span : SpanIn (grid .yfirst) (grid .ystep) (c .y) (c .yend)
+  y-span =
+      let y = k .ys in record { some = y .some; values = λ i l. accepted grid isSolid e .y-value i (omega (arith, y, l)) }
+
+pub z-span : (grid : Grid) (c : Cell) → CellOk (grid .depth) grid c → gridFault true (gridIn grid true) ≡ 0
+    → SpanIn (grid .zfirst) (grid .zstep) (c .z) (c .zend)
+z-span grid c k e =
+    let z = k .zs in record { some = z .some; values = λ i l. accepted grid true e .z-value refl i (omega (arith, z, l)) }
+
+span-ok : {f s : ℤ} {a e : ℕ} {r : Range} → SpanIn f s a e → r ≡ spanOf f s a e → EndsOk r
+span-ok {f} {s} {a} {e} k h =
+    rw h (record { low = k .values a (k .some); high = k .values (e - 1) (omega (arith, k .some)) })
+
+-- A cell's box, from the ranges of its axes: each ends before the least end, and the one z of a flat grid is as given.
+boxes : {a b c d f g : Range} → a ≡ b → c ≡ d → f ≡ g
     → _≡_ {A = Box} (record { xs = a; ys = c; zs = f }) (record { xs = b; ys = d; zs = g })
 boxes p q r = cc
 
-pub box-ok : {grid : Grid} {c : Cell} → SpansIn grid c → BoxOk (boxAt grid c)
-box-ok s =
-    record {
-      xs = record { low = s .xs .low; high = s .xs .high };
-      ys = record { low = s .ys .low; high = s .ys .high };
-      zs = record { low = s .zs .low; high = s .zs .high };
-    }
-
--- The samples of a cell's axes are values, and make its box.
-module _ (isSolid : Bool) (grid : Grid) (c : Cell) (k : CellOk (layersIn isSolid grid) grid c)
-    (e : gridFault isSolid (gridIn grid isSolid) ≡ 0) where
-  pub cell-spans : SpansIn grid c
-  cell-spans =
-      let a = accepted grid isSolid e in
-      let x = k .xs in
-      let y = k .ys in
-      let z = k .zs in
-      record {
-        xs = record {
-          some = x .some;
-          low = a .x-value (c .x) (omega arith);
-          high = a .x-value (c .xend - 1) (omega arith);
-        };
-        ys = record {
-          some = y .some;
-          low = a .y-value (c .y) (omega arith);
-          high = a .y-value (c .yend - 1) (omega arith);
-        };
-        zs = record {
-          some = z .some;
-          low = z-value isSolid grid e (c .z) (omega arith);
-          high = z-value isSolid grid e (c .zend - 1) (omega arith);
-        };
-      }
-
--- A cell's box is that of its region: each axis ends before the least end, and the one z of a flat grid is its first.
 span-least : (f s : ℤ) (a : ℕ) {e p : ℕ} → e ≡ p → spanOf f s a e ≡ spanOf f s a p
 span-least f s a h = ap (λ v. range (at f s a) (at f s (v - 1))) h
 
-module _ (grid : Grid) (c : Cell) where
-  solid-box : CellOk (grid .depth) grid c → gridFault true (gridIn grid true) ≡ 0
-      → boxAt grid c ≡ boxOf (gridIn grid true) (regionIn c)
+module _ (grid : Grid) (c : Cell) {xs ys zs : Range} (hx : xs ≡ spanOf (grid .xfirst) (grid .xstep) (c .x) (c .xend))
+    (hy : ys ≡ spanOf (grid .yfirst) (grid .ystep) (c .y) (c .yend)) where
+  pub solid-box : CellOk (grid .depth) grid c → gridFault true (gridIn grid true) ≡ 0
+      → zs ≡ spanOf (grid .zfirst) (grid .zstep) (c .z) (c .zend) → CellBox true grid c (record { xs = xs; ys = ys; zs = zs })
   unfolding boxOf
-  solid-box k e =
+  solid-box k e hz =
       let past : c .zend ≡ pastZ (gridIn grid true) (regionIn c) = rw (kind true grid e) (k .zs .least) in
-      rw (kind true grid e)
-      (boxes
-      (span-least (grid .xfirst) (grid .xstep) (c .x) (k .xs .least))
-      (span-least (grid .yfirst) (grid .ystep) (c .y) (k .ys .least))
-      (span-least (grid .zfirst) (grid .zstep) (c .z) past))
+      record {
+        same = rw (kind true grid e)
+            (boxes
+            (hx ∙ span-least (grid .xfirst) (grid .xstep) (c .x) (k .xs .least))
+            (hy ∙ span-least (grid .yfirst) (grid .ystep) (c .y) (k .ys .least))
+            (hz ∙ span-least (grid .zfirst) (grid .zstep) (c .z) past));
+        ok = record {
+          xs = span-ok (x-span true grid c k e) hx;
+          ys = span-ok (y-span true grid c k e) hy;
+          zs = span-ok (z-span grid c k e) hz;
+        };
+      }
 
-  flat-box : CellOk 1 grid c → boxAt grid c ≡ boxOf (gridIn grid false) (regionIn c)
+  pub flat-box : CellOk 1 grid c → gridFault false (gridIn grid false) ≡ 0 → zs ≡ range (grid .zfirst) (grid .zfirst)
+      → CellBox false grid c (record { xs = xs; ys = ys; zs = zs })
   unfolding boxOf
-  flat-box k =
-      let z = k .zs in
-      let first : (k : ℕ) → k ≡ 0 → at (grid .zfirst) (grid .zstep) k ≡ grid .zfirst =
-      λ k h. ap (at (grid .zfirst) (grid .zstep)) h ∙ at-first (grid .zfirst) (grid .zstep) in
-      boxes
-      (span-least (grid .xfirst) (grid .xstep) (c .x) (k .xs .least))
-      (span-least (grid .yfirst) (grid .ystep) (c .y) (k .ys .least))
-      (both range (first (c .z) (omega arith)) (first (c .zend - 1) (omega arith)))
-
-pub cell-box : (isSolid : Bool) (grid : Grid) (c : Cell) → CellOk (layersIn isSolid grid) grid c
-    → gridFault isSolid (gridIn grid isSolid) ≡ 0 → boxAt grid c ≡ boxOf (gridIn grid isSolid) (regionIn c)
-cell-box true grid c k e = solid-box grid c k e
-cell-box false grid c k e = flat-box grid c k
+  flat-box k e hz =
+      let v = accepted grid false e .flat-z in
+      record {
+        same = boxes
+            (hx ∙ span-least (grid .xfirst) (grid .xstep) (c .x) (k .xs .least))
+            (hy ∙ span-least (grid .yfirst) (grid .ystep) (c .y) (k .ys .least))
+            hz;
+        ok = record {
+          xs = span-ok (x-span false grid c k e) hx;
+          ys = span-ok (y-span false grid c k e) hy;
+          zs = rw hz (record { low = v; high = v });
+        };
+      }
 
 -- The children of a cell, by its ends: layers of a solid, rows of a flat grid.
 module _ (grid : Grid) (c : Cell) (n l : ℕ) (some : 1 ≤ n) (some-part : 1 ≤ l) (parts : c .side ≡ l * n) where

@@ -7,7 +7,7 @@ use native.Mathlib.Nat.{mul-le-mul-left}
 use native.Mathlib.Omega.{arith}
 use lib.ListN.{length, take, drop, length-drop}
 use lib.Seq.{take-all}
-use Rattle.rules.specs.Values.{isNeg, Range}
+use Rattle.rules.specs.Values.{isNeg, Range, Box}
 use Rattle.rules.specs.Tapes.{clauseLimit, rangeOver}
 use Rattle.rules.specs.Drawings.{Region, boxOf, fold, visit, children, alongY, alongZ, gridFault}
 use Rattle.rules.specs.Accepted.{Accepted}
@@ -19,7 +19,7 @@ use Rattle.code.specs.Shortening.{Shortened}
 use Rattle.code.proofs.WordTapes.{words-run, words-runnable, length-clauses, short-tape}
 use Rattle.picture.specs.Shapes.{gridIn}
 use Rattle.picture.specs.declared.grid.Grid.{Grid}
-use Rattle.walk.specs.Cells.{layersIn, CellOk, CellOf, regionIn, boxAt}
+use Rattle.walk.specs.Cells.{CellOf, regionIn, CellBox}
 use Rattle.walk.specs.Draws.{Draws, Fills, Hidden}
 use Rattle.walk.specs.Verdicts.{IsFull, IsEmpty, IsMixed, Judged}
 use Rattle.walk.specs.Walks.{Sound, Shown, Visits, Folds, Finished, Opened, Looked}
@@ -28,7 +28,7 @@ use Rattle.walk.specs.declared.look.Seen.{Seen}
 use Rattle.walk.specs.declared.look.Seen.the-variants.{Done, Open}
 use Rattle.walk.specs.declared.verdict.Verdict.{Verdict}
 use Rattle.walk.specs.declared.verdict.Verdict.the-variants.{Full, Empty, Mixed}
-use Rattle.walk.proofs.CellLaws.{cell-box, cell-layers, cell-rows}
+use Rattle.walk.proofs.CellLaws.{cell-layers, cell-rows}
 use Rattle.walk.proofs.Draws.{draws-count, draws-hidden, draws-full, draws-empty, draws-cut}
 
 -- Words of an accepted tape.
@@ -56,13 +56,12 @@ module _ (isSolid : Bool) {ws : List ℕ} {grid : Grid} {r : Region} {b : List �
   pub done-hidden : Hidden (Shown isSolid grid) (gridIn grid isSolid) r b true → Finished isSolid ws grid r b b 0
   done-hidden e = record { draws = λ n ns m a. draws-hidden e (n ∷ ns) (tapeIn m ws); bound = omega arith }
 
--- A region that is seen, with the range x over it.
-module _ (isSolid : Bool) {ws : List ℕ} {grid : Grid} {c : Cell} {b hs hs′ : List ℕ} {x : Range}
-    (k : CellOk (layersIn isSolid grid) grid c) (f : gridFault isSolid (gridIn grid isSolid) ≡ 0)
-    (e : Hidden (Shown isSolid grid) (gridIn grid isSolid) (regionIn c) b false)
-    (v : Bounded ws (boxAt grid c) hs hs′ x) where
+-- A region that is seen, with the range x over its box.
+module _ (isSolid : Bool) {ws : List ℕ} {grid : Grid} {c : Cell} {b hs hs′ : List ℕ} {box : Box} {x : Range}
+    (k : CellBox isSolid grid c box) (e : Hidden (Shown isSolid grid) (gridIn grid isSolid) (regionIn c) b false)
+    (v : Bounded ws box hs hs′ x) where
   over-region : Bounded ws (boxOf (gridIn grid isSolid) (regionIn c)) hs hs′ x
-  over-region = rw (cell-box isSolid grid c k f) at v
+  over-region = rw (k .same) at v
 
   range-of : (m : ℕ) → Fit m ws → x ≡ rangeOver (tapeIn m ws) (boxOf (gridIn grid isSolid) (regionIn c))
   range-of m a = over-region .range m a

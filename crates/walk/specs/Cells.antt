@@ -6,8 +6,9 @@ use Prim.Native.Nat.{ℕ, _+_, _-_, _*_, _≤_, _<_}
 use lib.IntN.{ℤ}
 use lib.ListN.{length}
 use Rattle.rules.specs.Values.{pick, IsValue, Range, range, Box}
-use Rattle.rules.specs.Drawings.{Region, region, sizeLimit, at, lesser, gridFault}
+use Rattle.rules.specs.Drawings.{Region, region, sizeLimit, at, lesser, boxOf, gridFault}
 use Rattle.rules.specs.Pictures.{stride}
+use Rattle.code.specs.Runs.{BoxOk}
 use Rattle.picture.specs.Shapes.{gridIn}
 use Rattle.picture.specs.declared.grid.Grid.{Grid}
 use Rattle.walk.specs.declared.cell.Cell.{Cell}
@@ -55,25 +56,15 @@ pub record CellOf (layers : ℕ) (grid : Grid) (r : Region) (c : Cell) : Type 0 
   pub ok : CellOk layers grid c
   pub same : regionIn c ≡ r
 
--- Samples of an axis from one index to before another: both ends are values, and the range that they make.
+-- Samples of an axis from one index to before another: those before the end are values, and the range that they make.
 pub record SpanIn (first step : ℤ) (from end : ℕ) : Type 0 where
   pub some : from < end
-  pub low : IsValue (at first step from)
-  pub high : IsValue (at first step (end - 1))
+  pub values : (i : ℕ) → i < end → IsValue (at first step i)
 
 abbrev pub spanOf : ℤ → ℤ → ℕ → ℕ → Range
 spanOf first step from end = range (at first step from) (at first step (end - 1))
 
-pub record SpansIn (grid : Grid) (c : Cell) : Type 0 where
-  pub xs : SpanIn (grid .xfirst) (grid .xstep) (c .x) (c .xend)
-  pub ys : SpanIn (grid .yfirst) (grid .ystep) (c .y) (c .yend)
-  pub zs : SpanIn (grid .zfirst) (grid .zstep) (c .z) (c .zend)
-
--- The cell's box. In a flat grid its one z is the sample of index 0, whatever the step.
-abbrev pub boxAt : Grid → Cell → Box
-boxAt grid c =
-    record {
-      xs = spanOf (grid .xfirst) (grid .xstep) (c .x) (c .xend);
-      ys = spanOf (grid .yfirst) (grid .ystep) (c .y) (c .yend);
-      zs = spanOf (grid .zfirst) (grid .zstep) (c .z) (c .zend);
-    }
+-- The box of a cell: that of its region, with ends that are values.
+pub record CellBox (isSolid : Bool) (grid : Grid) (c : Cell) (b : Box) : Type 0 where
+  pub same : b ≡ boxOf (gridIn grid isSolid) (regionIn c)
+  pub ok : BoxOk b

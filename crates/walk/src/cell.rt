@@ -4,10 +4,12 @@ use fixed::span::Span;
 use picture::grid::Grid;
 use picture::grid::sample;
 ghost use mathlib.Core.Path.{_≡_};
+ghost use mathlib.Core.Bool.{true, false};
 ghost use Prim.Native.Nat.{_≤_};
-ghost use Rattle.rules.specs.Drawings.{region, sizeLimit, lesser as lesserOf};
+ghost use Rattle.rules.specs.Drawings.{region, sizeLimit, gridFault, lesser as lesserOf};
 ghost use Rattle.fixed.specs.Shapes.{boxIn, rangeIn};
-ghost use Rattle.walk.specs.Cells.{Small, InGrid, CellOf, SpanIn, spanOf, SpansIn, boxAt};
+ghost use Rattle.picture.specs.Shapes.{gridIn};
+ghost use Rattle.walk.specs.Cells.{Small, InGrid, CellOk, CellOf, SpanIn, spanOf, CellBox};
 
 // First index and past the last one on each axis, cut off at the grid's edge, and the side before that.
 pub struct Cell {
@@ -55,13 +57,31 @@ fn span(first: i32, step: i32, from: u32, end: u32) -> Span
     }
 }
 
-pub fn bounds(grid: Grid, c: Cell) -> Bounds
-    requires { ⌜ SpansIn grid c ⌝ }
-    ensures { λ r. ⌜ boxIn r ≡ boxAt grid c ⌝ }
+// The box of a solid's region.
+pub fn solid_bounds(grid: Grid, c: Cell) -> Bounds
+    requires { ⌜ gridFault true (gridIn grid true) ≡ 0 ⌝ }
+    requires { ⌜ CellOk (grid .depth) grid c ⌝ }
+    ensures { λ r. ⌜ CellBox true grid c (boxIn r) ⌝ }
 {
     Bounds {
         xs: span(grid.xfirst, grid.xstep, c.x, c.xend),
         ys: span(grid.yfirst, grid.ystep, c.y, c.yend),
         zs: span(grid.zfirst, grid.zstep, c.z, c.zend),
+    }
+}
+
+// The box of a flat region: its one z is the grid's, as given.
+pub fn flat_bounds(grid: Grid, c: Cell) -> Bounds
+    requires { ⌜ gridFault false (gridIn grid false) ≡ 0 ⌝ }
+    requires { ⌜ CellOk 1 grid c ⌝ }
+    ensures { λ r. ⌜ CellBox false grid c (boxIn r) ⌝ }
+{
+    Bounds {
+        xs: span(grid.xfirst, grid.xstep, c.x, c.xend),
+        ys: span(grid.yfirst, grid.ystep, c.y, c.yend),
+        zs: Span {
+            low: grid.zfirst,
+            high: grid.zfirst,
+        },
     }
 }

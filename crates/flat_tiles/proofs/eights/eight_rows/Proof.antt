@@ -1,110 +1,90 @@
--- Row after row of regions of side 8.
+-- The rows of regions of side 8.
 use mathlib.Core.Path.{_≡_, refl, _∙_}
-use mathlib.Core.List.{[], _∷_}
-use Prim.Native.Nat.{_-_}
+use mathlib.Core.Bool.{false}
+use Prim.Native.Nat.{_*_, _-_}
 use native.Mathlib.Omega.{arith}
 use lib.ListN.{length}
-use Rattle.walk.proofs.Children.{rows-start, rows-step, rows-end}
-use Rattle.flat_tiles.proofs.Parts.{given-on}
-use Rattle.flat_tiles.proofs.Loops.{RowsPlace, left-start, left-list, left-done}
+use Rattle.walk.proofs.CellLaws.{ready-small}
+use Rattle.walk.proofs.LookLaws.{sound-length}
+use Rattle.walk.proofs.Loops.{AtRow, rows-begin, rows-again, rows-done}
+use Rattle.walk.proofs.Places.{up-sum, ready-again}
+use Rattle.flat_tiles.specs.Sides.{below8}
 use Rattle.flat_tiles.proofs.eights.eight_rows.Statement.{statement}
 use Rattle.flat_tiles.proofs.eights.eight_rows.Tie as tie
 
 abbrev Inv-loop : tie.InvT-loop
-Inv-loop code grid x xend y yend picture₀ choices₀ next₀ count₀ j₀ picture choices next count j =
-    RowsPlace grid code (1 ∷ []) 8 66560 x y xend yend picture₀ picture count j
-    × ((length choices ≡ length choices₀) × (length next ≡ length next₀))
+Inv-loop code grid parent picture₀ choices₀ second₀ count₀ y₀ picture choices second count y =
+    AtRow false 8 8 (8 * 65) code grid below8 (parent .x) (parent .xend) (parent .y) (parent .yend) 0 picture₀ picture count y
+    × (length choices ≡ length choices₀)
+    × (length second ≡ length second₀)
 
 abbrev μ-loop : tie.MeasureT-loop
-μ-loop code grid x xend y yend picture₀ choices₀ next₀ count₀ j₀ picture choices next count j = yend - j
+μ-loop code grid parent picture₀ choices₀ second₀ count₀ y₀ picture choices second count y = parent .yend - y
+
+-- The places: before the loop, at its test, in a turn, after the call, and past the loop.
+abbrev start : tie.At-loop Inv-loop μ-loop → tie.Start Inv-loop μ-loop
+start c = c .before .before .before .before .before
+
+abbrev at-test : tie.Then1 Inv-loop μ-loop → tie.At-loop Inv-loop μ-loop
+at-test c = c .before .before
+
+abbrev in-turn : tie.After-eight-row-arg3 Inv-loop μ-loop → tie.Then1 Inv-loop μ-loop
+in-turn c = c .before .before .before
+
+abbrev called : tie.After-slice-known6 Inv-loop μ-loop → tie.After-eight-row Inv-loop μ-loop
+called c = c .before .before .before .before .before .before
+
+abbrev past : tie.Else1 Inv-loop μ-loop → tie.At-loop Inv-loop μ-loop
+past c = c .before .before
 
 loop-holds : tie.Need-loop-holds Inv-loop μ-loop
 loop-holds c =
-    let s = c .before .before .before .before in
-    let a = s .args in (
-      record {
-        left = left-start (rows-start 8 (a .x) 0 8 (a .xend) (a .yend) (omega arith) 8 (a .y) (omega (arith, s .pre .1 .0)));
-        from = omega arith;
-        few = omega arith;
-        even = omega arith;
-        to = omega (arith, s .pre);
-        size = refl;
-      },
-      (refl, refl),
-    )
+    let p = c .before .before .before .before .pre .1 in
+    (rows-begin _ (omega arith) (omega arith), refl, refl)
 
 eight-row-requires : tie.Need-eight-row-requires Inv-loop μ-loop
 eight-row-requires c κs =
-    let s = c .before .before .before .before .before .before .before .before .before in
-    let p = s .pre in
-    let g = p .0 .good in
-    let l = c .before .before .before .before .loop in
-    let i = l .inv .0 in
-    let n = l .inv .1 in
-    let t = c .before .before .before .loop-test .taken in (
-      given-on (l .picture) (p .0) (i .size),
-      (
-        record { part = record { some-column = omega arith; columns = omega arith; some-row = omega arith; rows = omega arith }; start = omega arith; wide = omega arith; high = omega arith },
-        (omega (arith, p .1 .1), omega (arith, p .1 .1)),
-      ),
-    )
+    let t = in-turn c in
+    let i = at-test t .loop .inv in
+    let s = start (at-test t) in
+    let p = s .pre .1 .1 in
+    (s .pre .0, (ready-again (s .pre .1 .0) (i .0 .place .size), (p .0, ((p .1 .0 .0, p .1 .0 .1, t .if1 .taken), (omega arith, omega arith)))))
 
 add-count : tie.Need-add-count Inv-loop μ-loop
 add-count c =
-    let i = c .before .before .before .before .before .before .before .before .before .before .before .loop .inv .0 in
-    let p = c .before .before .before .before .before .before .before .before .before .before .before .before .before .before .before .before .pre in
-    omega (arith, c .before .before .before .before .before .before .before .before .before .before .loop-test .taken, c .before .before .before .before .before .before .eight-row .ensures .1)
+    let t = in-turn (called c .before) in
+    let l = at-test t in
+    omega (arith, sound-length (start l .pre .0), up-sum (l .loop .inv .0 .place) (t .if1 .taken) (called c .eight-row .ensures .bound))
 
-add-j : tie.Need-add-j Inv-loop μ-loop
-add-j c =
-    let i = c .before .before .before .before .before .before .before .before .before .before .before .loop .inv .0 in
-    let p = c .before .before .before .before .before .before .before .before .before .before .before .before .before .before .before .before .pre in
-    omega (arith, c .before .before .before .before .before .before .before .before .before .before .loop-test .taken)
+add-y : tie.Need-add-y Inv-loop μ-loop
+add-y c =
+    let t = in-turn (called c .before) in
+    let p = start (at-test t) .pre .1 in
+    let d = ready-small (p .0) in
+    omega (arith, t .if1 .taken)
 
 loop-less : tie.Need-loop-less Inv-loop μ-loop
-loop-less c =
-    let i = c .before .before .before .before .before .before .before .before .before .before .before .loop .inv .0 in
-    let p = c .before .before .before .before .before .before .before .before .before .before .before .before .before .before .before .before .pre in
-    omega (arith, c .before .before .before .before .before .before .before .before .before .before .loop-test .taken)
+loop-less c = omega (arith, in-turn (called c .before) .if1 .taken)
 
 loop-again : tie.Need-loop-again Inv-loop μ-loop
 loop-again c =
-    let v = c .before .before .before .before .before .before .eight-row in
-    let w = v .ensures .1 in
-    let t = c .before .before .before .before .before .before .before .before .before .before .loop-test .taken in
-    let l = c .before .before .before .before .before .before .before .before .before .before .before .loop in
-    let i = l .inv .0 in
-    let n = l .inv .1 in
-    let a = c .before .before .before .before .before .before .before .before .before .before .before .before .before .before .before .before .args in (
-      record {
-        left = left-list _ _ (rows-step 8 (a .x) 0 8 (a .xend) (a .yend) (omega arith) (l .j) t) (i .left) (v .ensures .0);
-        from = omega arith;
-        few = omega arith;
-        even = omega arith;
-        to = omega arith;
-        size = v .kept .1 .1 .1 .1 .1 .0 ∙ i .size;
-      },
-      (v .kept .1 .1 .1 .1 .1 .1 .0 ∙ n .0, v .kept .1 .1 .1 .1 .1 .1 .1 .0 ∙ n .1),
-    )
+    let v = called c .eight-row in
+    let t = in-turn (called c .before) in
+    let i = at-test t .loop .inv in
+    let kept = v .kept .1 .1 .1 .1 in
+    (rows-again (i .0) (t .if1 .taken) (v .ensures) (kept .0), kept .1 .0 ∙ i .1, kept .1 .1 .0 ∙ i .2)
 
 same-length : tie.Need-same-length Inv-loop μ-loop
-same-length c = c .before .loop .inv .0 .size
+same-length c = past c .loop .inv .0 .place .size
 
 same-length-2 : tie.Need-same-length-2 Inv-loop μ-loop
-same-length-2 c = c .before .loop .inv .1 .0
+same-length-2 c = past c .loop .inv .1
 
 same-length-3 : tie.Need-same-length-3 Inv-loop μ-loop
-same-length-3 c = c .before .loop .inv .1 .1
+same-length-3 c = past c .loop .inv .2
 
 returns : tie.Need-returns Inv-loop μ-loop
-returns c =
-    let s = c .before .before .before .before .before .before in
-    let a = s .args in
-    let p = s .pre in
-    let g = p .0 .good in
-    let l = c .before .loop in
-    let i = l .inv .0 in
-    (left-done (rows-end 8 (a .x) 0 8 (a .xend) (a .yend) (omega arith) (l .j) (omega arith)) (i .left), omega arith)
+returns c = rows-done (past c .loop .inv .0) (omega arith) (omega arith)
 
 pub eight-rows-spec : {M : Type 1} → statement M
 eight-rows-spec =
@@ -115,7 +95,7 @@ eight-rows-spec =
     loop-holds
     eight-row-requires
     add-count
-    add-j
+    add-y
     loop-less
     loop-again
     same-length

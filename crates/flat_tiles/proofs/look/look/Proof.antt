@@ -1,57 +1,64 @@
--- The verdict's three cases: filled, left, or still to be drawn by its children.
-use mathlib.Core.Path.{_≡_, refl, subst}
-use Prim.Native.Nat.{ℕ, _+_}
+-- Full, empty and cut.
+use mathlib.Core.Path.{refl}
+use mathlib.Core.Bool.{false}
 use native.Mathlib.Omega.{arith}
-use Rattle.rules.specs.Drawings.{lesser, region, boxOf}
-use Rattle.flat_tiles.specs.Verdicts.{Judged}
-use Rattle.flat_tiles.specs.declared.verdict.Verdict.{Verdict}
-use Rattle.flat_tiles.specs.Flats.{flatIn}
-use Rattle.flat_tiles.proofs.Words.{runnable}
-use Rattle.flat_tiles.proofs.Parts.{pixels-in}
-use Rattle.flat_tiles.proofs.Levels.{level-full, level-empty}
+use Rattle.picture.specs.Shapes.{gridIn}
+use Rattle.walk.specs.Cells.{regionIn}
+use Rattle.walk.specs.Draws.{Hidden}
+use Rattle.walk.specs.Walks.{Shown}
+use Rattle.walk.proofs.Draws.{seen-flat}
+use Rattle.walk.proofs.LookLaws.{sound-runs, full-of, empty-of, mixed-of, done-full, done-empty, opened}
 use borrow.Author.Needs.{needs}
 use Rattle.flat_tiles.proofs.look.look.Statement.{statement}
 use Rattle.flat_tiles.proofs.look.look.Tie as tie
 
--- The region's verdict, on its box, for the side that its ends are those of.
-judged : (c : tie.After-judge) {v : Verdict} → c .judge .result ≡ v
-    → (side : ℕ)
-    → let a = c .before .before .before .before .before .before .before .before .args in
-    a .xend ≡ lesser (a .grid .width) (a .x + side)
-    → a .yend ≡ lesser (a .grid .height) (a .y + side)
-    → Judged (a .code .now) (boxOf (flatIn (a .grid)) (region (a .x) (a .y) 0 side)) (c .judge .last .1 .1 .1 .0) v
-judged c e side ex ey =
-    let a = c .before .before .before .before .before .before .before .before .args in
-    subst
-    (λ (v : Verdict). Judged (a .code .now) (boxOf (flatIn (a .grid)) (region (a .x) (a .y) 0 side)) (c .judge .last .1 .1 .1 .0) v)
-    e
-    (rw (c .before .before .before .bounds .ensures .0 side ex ey) at (c .judge .ensures))
+-- The places: the start, once the box is made, that, once its range is there, and that, once there is a verdict.
+abbrev start : tie.After-flat-bounds → tie.Start
+start c = c .before .before .before .before .before
 
-bounds-requires : tie.Need-bounds-requires
-bounds-requires c κs = search needs
+abbrev with-box : tie.After-run-ranges → tie.After-flat-bounds
+with-box c = c .before .before
 
-judge-requires : tie.Need-judge-requires
-judge-requires c κs =
-    let p = c .before .before .before .before .before .before .before .pre in
-    (runnable (p .0 .words), (c .before .before .bounds .ensures .1, (omega (arith, p .0 .few, p .1 .1), omega (arith, p .0 .few, p .1 .1))))
+abbrev ranged : tie.After-verdict-on → tie.After-run-ranges
+ranged c = c .before .before .before
+
+-- Nothing is hidden in a flat drawing.
+seen : (c : tie.After-flat-bounds)
+    → let a = start c .args in Hidden (Shown false (a .grid)) (gridIn (a .grid) false) (regionIn (a .c)) (a .picture .now) false
+seen c = seen-flat _ _ _ _ refl
+
+flat-bounds-requires : tie.Need-flat-bounds-requires
+flat-bounds-requires c κs =
+    let p = c .before .before .before .before .pre .1 in (p .0 .fault, p .1 .0)
+
+run-ranges-requires : tie.Need-run-ranges-requires
+run-ranges-requires c κs =
+    let b = c .before in
+    let p = start b .pre in
+    (sound-runs (p .0), (b .flat-bounds .ensures .ok, p .1 .1 .1 .1 .0))
+
+verdict-on-requires : tie.Need-verdict-on-requires
+verdict-on-requires c κs = search needs
 
 enum-told : tie.Need-enum-told
 enum-told c = search needs
 
-cast-fill-rect : tie.Need-cast-fill-rect
-cast-fill-rect c = search needs
-
-fill-rect-requires : tie.Need-fill-rect-requires
-fill-rect-requires c κs =
-    let p = c .before .before .before .before .before .before .before .before .before .before .before .before .before .before .before .before .pre in
-    let k = p .1 .0 in
-    (pixels-in _ _ _ (p .0) (k .start) (k .part .some-column) (k .part .columns) (omega (arith, k .part .rows)), omega (arith, k .part .some-row))
+fill-requires : tie.Need-fill-requires
+fill-requires c κs =
+    let v = c .before .before .before in let p = start (with-box (ranged v)) .pre .1 in (p .0, (p .1 .0, p .1 .1 .0))
 
 enum-told-2 : tie.Need-enum-told-2
 enum-told-2 c = search needs
 
-enum-known-start : tie.Need-enum-known-start
-enum-known-start c = search needs
+enum-told-3 : tie.Need-enum-told-3
+enum-told-3 c = search needs
+
+shorten-requires : tie.Need-shorten-requires
+shorten-requires c κs =
+    let j = ranged (c .before .before .before .before) in
+    let s = start (with-box j) in
+    let r = s .pre .1 .1 .1 .1 in
+    (sound-runs (s .pre .0), (omega (arith, j .run-ranges .kept .1 .1 .0), omega arith))
 
 same-length : tie.Need-same-length
 same-length c = search needs
@@ -59,17 +66,26 @@ same-length c = search needs
 same-length-2 : tie.Need-same-length-2
 same-length-2 c = search needs
 
+returns : tie.Need-returns
+returns c =
+    let filled = c .before .before in
+    let told = filled .before .before in
+    let v = told .before .before in
+    let j = ranged v in
+    let b = with-box j in
+    done-full false (b .flat-bounds .ensures) (seen b) (j .run-ranges .ensures)
+    (full-of _ (v .verdict-on .ensures) (told .enum-told .given .1)) (filled .fill .ensures)
+
 same-length-3 : tie.Need-same-length-3
 same-length-3 c = search needs
 
-returns : tie.Need-returns
-returns c =
-    λ side ex ey.
-    record {
-      drawn =
-          λ n ns.
-          level-full _ _ side _ _ _ _ n ns ex ey (judged (c .before .before .before .before .before .before .before .before .before .before .before) (c .before .before .before .before .before .enum-told .given .1) side ex ey) (c .before .before .fill-rect .ensures);
-    }
+returns-2 : tie.Need-returns-2
+returns-2 c =
+    let v = c .before .before in
+    let j = ranged v in
+    let b = with-box j in
+    done-empty false (b .flat-bounds .ensures) (seen b) (j .run-ranges .ensures)
+    (empty-of _ (v .verdict-on .ensures) (c .enum-told2 .given .1))
 
 same-length-4 : tie.Need-same-length-4
 same-length-4 c = search needs
@@ -77,40 +93,33 @@ same-length-4 c = search needs
 same-length-5 : tie.Need-same-length-5
 same-length-5 c = search needs
 
-returns-2 : tie.Need-returns-2
-returns-2 c =
-    λ side ex ey.
-    record {
-      drawn = λ n ns. level-empty _ _ side _ _ _ _ n ns ex ey (judged (c .before .before .before .before .before .before) (c .enum-told2 .given .1) side ex ey);
-    }
-
-same-length-6 : tie.Need-same-length-6
-same-length-6 c = search needs
-
-same-length-7 : tie.Need-same-length-7
-same-length-7 c = search needs
-
 returns-3 : tie.Need-returns-3
-returns-3 c = λ side ex ey. record { cut = judged (c .before .before .before .before .before .before .before) (c .before .start .given .1) side ex ey; same = refl }
+returns-3 c =
+    let shortened = c .before .before in
+    let told = shortened .before .before .before in
+    let v = told .before .before in
+    let j = ranged v in
+    let b = with-box j in
+    opened false (b .flat-bounds .ensures) (seen b) (j .run-ranges .ensures)
+    (mixed-of _ (v .verdict-on .ensures) (told .enum-told3 .given .1)) (shortened .shorten .ensures) (shortened .shorten .kept .1 .1 .0)
 
 pub look-spec : {M : Type 1} → statement M
 look-spec =
     tie.close
     (tie.spec
-    bounds-requires
-    judge-requires
+    flat-bounds-requires
+    run-ranges-requires
+    verdict-on-requires
     enum-told
-    cast-fill-rect
-    fill-rect-requires
+    fill-requires
     enum-told-2
-    enum-known-start
+    enum-told-3
+    shorten-requires
     same-length
     same-length-2
-    same-length-3
     returns
+    same-length-3
+    returns-2
     same-length-4
     same-length-5
-    returns-2
-    same-length-6
-    same-length-7
     returns-3)

@@ -1,81 +1,108 @@
+-- One more sample, one more bit.
 use mathlib.Core.Path.{_≡_, refl, ap, _∙_}
+use mathlib.Core.Bool.{false}
 use mathlib.Core.List.{List}
 use Prim.Native.Nat.{ℕ, _-_, _≤_}
 use native.Mathlib.Omega.{arith}
 use Rattle.rules.specs.Tapes.{valueAt, material}
 use Rattle.rules.specs.Drawings.{sampleAt}
 use Rattle.rules.specs.Accepted.{Accepted}
-use Rattle.walk.proofs.Signs.{sign}
 use Rattle.code.specs.Words.{tapeIn}
 use Rattle.picture.specs.Bits.{rowByte}
+use Rattle.picture.specs.Shapes.{gridIn}
 use Rattle.picture.specs.declared.grid.Grid.{Grid}
-use Rattle.flat_tiles.specs.Flats.{flatIn, materials}
+use Rattle.walk.proofs.LookLaws.{sound-runs, fit-of}
+use Rattle.walk.proofs.Signs.{sign}
+use Rattle.flat_tiles.specs.Rows.{materials}
 use Rattle.flat_tiles.proofs.SampleRows.{materials-length, materials-next, no-samples}
-use Rattle.flat_tiles.proofs.Words.{runnable, fit}
 use Rattle.flat_tiles.proofs.samples.row_byte.Statement.{statement}
 use Rattle.flat_tiles.proofs.samples.row_byte.Tie as tie
 
-record RowSoFar (ws : List ℕ) (grid : Grid) (x y made i : ℕ) : Type 0 where
-  from : x ≤ i
-  byte : (n : ℕ) → Accepted (tapeIn n ws) → made ≡ rowByte (materials (i - x) (tapeIn n ws) (flatIn grid) x y)
+record RowSoFar (ws : List ℕ) (grid : Grid) (from end y made x : ℕ) : Type 0 where
+  above : from ≤ x
+  under : x ≤ end
+  byte : (n : ℕ) → Accepted (tapeIn n ws) → made ≡ rowByte (materials (x - from) (tapeIn n ws) (gridIn grid false) from y)
+
+-- At the row's end.
+all-so-far : {ws : List ℕ} {grid : Grid} {from end y made x : ℕ} → RowSoFar ws grid from end y made x → end ≤ x → (n : ℕ)
+    → Accepted (tapeIn n ws) → made ≡ rowByte (materials (end - from) (tapeIn n ws) (gridIn grid false) from y)
+all-so-far {end = end} {x = x} r h n a = let e : x ≡ end = omega (arith, r .under) in rw e at (r .byte n a)
 
 abbrev Inv-loop : tie.InvT-loop
-Inv-loop code grid x xend y byte₀ i₀ byte i = RowSoFar code grid x y byte i × (i ≤ xend)
+Inv-loop code grid parent y from byte₀ x₀ byte x = RowSoFar code grid (parent .x) (parent .xend) y byte x
 
 abbrev μ-loop : tie.MeasureT-loop
-μ-loop code grid x xend y byte₀ i₀ byte i = xend - i
+μ-loop code grid parent y from byte₀ x₀ byte x = parent .xend - x
+
+-- The places: before the loop, at its test, in a turn, after the run, and past the loop.
+abbrev start : tie.At-loop Inv-loop μ-loop → tie.Start Inv-loop μ-loop
+start c = c .before .before
+
+abbrev at-test : tie.Then1 Inv-loop μ-loop → tie.At-loop Inv-loop μ-loop
+at-test c = c .before .before
+
+abbrev run : tie.After-with-pixel Inv-loop μ-loop → tie.After-run-values Inv-loop μ-loop
+run c = c .before
+
+abbrev in-turn : tie.After-run-values Inv-loop μ-loop → tie.Then1 Inv-loop μ-loop
+in-turn c = c .before .before
+
+abbrev past : tie.Else1 Inv-loop μ-loop → tie.At-loop Inv-loop μ-loop
+past c = c .before .before
 
 loop-holds : tie.Need-loop-holds Inv-loop μ-loop
-loop-holds c = (record { from = omega arith; byte = λ n a. no-samples _ _ _ _ }, omega arith)
+loop-holds c =
+    let k = c .before .pre .1 .1 .0 .xs in
+    record { above = omega arith; under = omega (arith, k); byte = λ n a. no-samples _ _ _ _ }
 
 sample-at-requires : tie.Need-sample-at-requires Inv-loop μ-loop
-sample-at-requires c κs = (c .before .before .before .pre .1 .0, (omega arith, omega arith))
+sample-at-requires c κs =
+    let p = start (at-test c) .pre .1 in
+    let k = p .1 .0 in
+    (p .0, record { x-in = omega (arith, k .xs, c .if1 .taken); y-in = omega (arith, k .ys, p .1 .1 .1); z-in = omega arith })
 
 run-values-requires : tie.Need-run-values-requires Inv-loop μ-loop
-run-values-requires c κs = (runnable (c .before .before .before .before .pre .0), c .sample-at .ensures .1)
+run-values-requires c κs = (sound-runs (start (at-test (c .before)) .pre .0), c .sample-at .ensures .1)
 
 sub-with-pixel : tie.Need-sub-with-pixel Inv-loop μ-loop
-sub-with-pixel c = omega arith
+sub-with-pixel c = omega (arith, at-test (in-turn c) .loop .inv .above)
 
 with-pixel-requires : tie.Need-with-pixel-requires Inv-loop μ-loop
-with-pixel-requires c κs = omega arith
+with-pixel-requires c κs =
+    let t = in-turn c in
+    let p = start (at-test t) .pre .1 .1 in
+    omega (arith, t .if1 .taken, p .0 .xs, p .1 .0)
 
-add-i : tie.Need-add-i Inv-loop μ-loop
-add-i c = omega arith
+add-x : tie.Need-add-x Inv-loop μ-loop
+add-x c = omega (arith, in-turn (run c) .if1 .taken)
 
 loop-less : tie.Need-loop-less Inv-loop μ-loop
-loop-less c = omega arith
+loop-less c = omega (arith, in-turn (run c) .if1 .taken)
 
 loop-again : tie.Need-loop-again Inv-loop μ-loop
 unfolding material
 loop-again c =
-    let t = c .before .before .before .before in
-    let s = t .before .before in
-    let i = t .loop .inv .0 in
-    let v = c .before .run-values in
-    let w = c .before .before .sample-at in
-    let m = t .loop in (
-      record {
-        from = omega arith;
-        byte =
-            λ n a.
-            let g = flatIn (s .args .grid) in
-            let tp = tapeIn n (s .args .code .now) in
-            let x = s .args .x in
-            let y = s .args .y in
-            let e = v .ensures .value n (fit n _ a) ∙ ap (valueAt tp) (w .ensures .0) in
-            let k = sign (v .result) (valueAt tp (sampleAt g (m .i) y 0)) _ (record { sfits = v .ok }) refl e in
-            c .with-pixel .ensures (materials (m .i - x) tp g x y) (materials-length tp g y (m .i - x) x) (i .byte n a)
-            ∙ ap rowByte (materials-next tp g y x (m .i) _ (i .from) k);
-      },
-      omega arith,
-    )
+    let r = run c in
+    let t = in-turn r in
+    let l = at-test t .loop in
+    let i = l .inv in
+    let a = start (at-test t) .args in
+    let v = r .run-values in
+    record {
+      above = omega (arith, i .above);
+      under = omega (arith, t .if1 .taken);
+      byte =
+          λ n s.
+          let g = gridIn (a .grid) false in
+          let tp = tapeIn n (a .code .now) in
+          let e = v .ensures .value n (fit-of s) ∙ ap (valueAt tp) (r .before .sample-at .ensures .0) in
+          let k = sign (v .result) (valueAt tp (sampleAt g (l .x) (a .y) 0)) _ (record { sfits = v .ok }) refl e in
+          c .with-pixel .ensures (materials (l .x - a .parent .x) tp g (a .parent .x) (a .y)) (materials-length tp g (a .y) (l .x - a .parent .x) (a .parent .x)) (i .byte n s)
+          ∙ ap rowByte (materials-next tp g (a .y) (a .parent .x) (l .x) _ (i .above) k);
+    }
 
 returns : tie.Need-returns Inv-loop μ-loop
-returns c =
-    let m = c .before .loop in
-    let e : m .i ≡ c .before .before .before .args .xend = omega arith in
-    λ n a. rw e at (m .inv .0 .byte n a)
+returns c = all-so-far (past c .loop .inv) (omega arith)
 
 pub row-byte-spec : {M : Type 1} → statement M
 row-byte-spec =
@@ -88,7 +115,7 @@ row-byte-spec =
     run-values-requires
     sub-with-pixel
     with-pixel-requires
-    add-i
+    add-x
     loop-less
     loop-again
     returns)

@@ -1,25 +1,43 @@
 -- The row's byte, painted.
-use Prim.Native.Nat.{_+_, _-_, _*_, _≤_}
-use native.Mathlib.Nat.{mul-le-mul}
+use mathlib.Core.Bool.{false}
+use mathlib.Core.List.{[]}
+use Prim.Native.Nat.{_-_, _*_}
 use native.Mathlib.Omega.{arith}
 use lib.ListN.{length}
-use Rattle.flat_tiles.proofs.Parts.{pixels-in}
-use Rattle.flat_tiles.proofs.SampleRows.{row-drawn}
+use Rattle.rules.specs.Drawings.{alongX}
+use Rattle.walk.specs.Walks.{Folds}
+use Rattle.walk.proofs.LookLaws.{sound-length}
+use Rattle.flat_tiles.proofs.CellRows.{pixels-in}
+use Rattle.flat_tiles.proofs.SampleRows.{row-folds}
 use borrow.Author.Needs.{needs}
 use Rattle.flat_tiles.proofs.samples.sample_row.Statement.{statement}
 use Rattle.flat_tiles.proofs.samples.sample_row.Tie as tie
 
+-- The places: the start, once the byte is made, and that, once it is painted.
+abbrev start : tie.After-row-byte → tie.Start
+start c = c .before .before .before
+
+abbrev with-byte : tie.After-paint-row → tie.After-row-byte
+with-byte c = c .before .before .before .before
+
+abbrev painted : tie.After-struct-known3 → tie.After-paint-row
+painted c = c .before .before .before
+
 row-byte-requires : tie.Need-row-byte-requires
-row-byte-requires c κs = search needs
+row-byte-requires c κs =
+    let p = c .before .before .pre in (p .0, (p .1 .0 .fault, (p .1 .1 .0, (p .1 .1 .1 .0, p .1 .1 .1 .2))))
 
 cast-paint-row : tie.Need-cast-paint-row
 cast-paint-row c = search needs
 
+cast-paint-row-2 : tie.Need-cast-paint-row-2
+cast-paint-row-2 c = search needs
+
 paint-row-requires : tie.Need-paint-row-requires
 paint-row-requires c κs =
-    let s = c .before .before .before .before .before in
-    let a = s .args in
-    pixels-in (a .x) (a .x + 1) (a .y + 1) (s .pre .0) (s .pre .1 .start) (omega arith) (omega arith) (omega arith)
+    let p = start (c .before .before .before) .pre .1 in
+    let k = p .1 .0 in
+    pixels-in _ _ _ (p .0) (p .1 .1 .1) (omega arith) (omega (arith, k .xs)) (omega (arith, k .ys, p .1 .1 .2))
 
 sub-result : tie.Need-sub-result
 sub-result c = search needs
@@ -27,26 +45,27 @@ sub-result c = search needs
 cast-result : tie.Need-cast-result
 cast-result c = search needs
 
-few : (c : tie.After-slice-known2)
-    → let a = c .before .before .before .before .before .before .before .before .args in
-    (a .xend - a .x) * length (a .code .now) ≤ 8192
-few c =
-    let s = c .before .before .before .before .before .before .before .before in
-    let a = s .args in
-    let h : a .xend - a .x ≤ 8 = omega arith in
-    let k : length (a .code .now) ≤ 1024 = s .pre .0 .few in
-    mul-le-mul h k
+-- What the row draws and counts.
+drawn : (c : tie.After-struct-known3)
+    → let a = start (with-byte (painted c)) .args in
+    Folds false 8 (a .code .now) (a .grid) [] (alongX 8 (a .parent .x) (a .y) 0 1 (a .parent .xend)) (a .picture .now)
+    (painted c .paint-row .last .0) ((a .parent .xend - a .parent .x) * length (a .code .now))
+drawn c =
+    let u = painted c in
+    let b = with-byte u in
+    let p = start b .pre .1 .1 in
+    row-folds (p .0) (p .1 .0) _ _ _ (p .1 .2) (b .row-byte .ensures) (u .paint-row .ensures)
 
 mul-result : tie.Need-mul-result
-mul-result c = omega (arith, few c)
+mul-result c =
+    let s = start (with-byte (painted c)) in
+    omega (arith, sound-length (s .pre .0), drawn c .bound)
 
 same-length : tie.Need-same-length
 same-length c = search needs
 
 returns : tie.Need-returns
-returns c =
-    let s = c .before .before .before .before .before .before .before .before in
-    (row-drawn _ _ _ _ _ _ (s .pre .1) (c .before .before .before .before .before .row-byte .ensures) (c .before .before .paint-row .ensures), few c)
+returns c = drawn c
 
 pub sample-row-spec : {M : Type 1} → statement M
 sample-row-spec =
@@ -54,6 +73,7 @@ sample-row-spec =
     (tie.spec
     row-byte-requires
     cast-paint-row
+    cast-paint-row-2
     paint-row-requires
     sub-result
     cast-result

@@ -1,79 +1,80 @@
--- Row after row.
-use mathlib.Core.Path.{refl, _∙_}
+-- The rows of samples of a region of side 8.
+use mathlib.Core.Bool.{false}
 use mathlib.Core.List.{[]}
 use Prim.Native.Nat.{_-_}
 use native.Mathlib.Omega.{arith}
-use Rattle.walk.proofs.Children.{rows-start, rows-step, rows-end}
-use Rattle.flat_tiles.proofs.Parts.{given-on}
-use Rattle.flat_tiles.proofs.Loops.{RowsPlace, left-start, left-list, left-done}
+use Rattle.walk.proofs.CellLaws.{ready-small}
+use Rattle.walk.proofs.LookLaws.{sound-length}
+use Rattle.walk.proofs.Loops.{AtRow, rows-begin, rows-again, rows-done}
+use Rattle.walk.proofs.Places.{up-sum, ready-again}
 use Rattle.flat_tiles.proofs.samples.sample_rows.Statement.{statement}
 use Rattle.flat_tiles.proofs.samples.sample_rows.Tie as tie
 
 abbrev Inv-loop : tie.InvT-loop
-Inv-loop code grid x xend y yend picture₀ count₀ j₀ picture count j = RowsPlace grid code [] 1 8192 x y xend yend picture₀ picture count j
+Inv-loop code grid parent picture₀ count₀ y₀ picture count y =
+    AtRow false 1 8 8 code grid [] (parent .x) (parent .xend) (parent .y) (parent .yend) 0 picture₀ picture count y
 
 abbrev μ-loop : tie.MeasureT-loop
-μ-loop code grid x xend y yend picture₀ count₀ j₀ picture count j = yend - j
+μ-loop code grid parent picture₀ count₀ y₀ picture count y = parent .yend - y
+
+-- The places: before the loop, at its test, in a turn, after the call, and past the loop.
+abbrev start : tie.At-loop Inv-loop μ-loop → tie.Start Inv-loop μ-loop
+start c = c .before .before .before
+
+abbrev at-test : tie.Then1 Inv-loop μ-loop → tie.At-loop Inv-loop μ-loop
+at-test c = c .before .before
+
+abbrev in-turn : tie.After-sample-row-arg Inv-loop μ-loop → tie.Then1 Inv-loop μ-loop
+in-turn c = c .before
+
+abbrev called : tie.After-slice-known2 Inv-loop μ-loop → tie.After-sample-row Inv-loop μ-loop
+called c = c .before .before
+
+abbrev past : tie.Else1 Inv-loop μ-loop → tie.At-loop Inv-loop μ-loop
+past c = c .before .before
 
 loop-holds : tie.Need-loop-holds Inv-loop μ-loop
 loop-holds c =
-    let a = c .before .before .args in
-    record {
-      left = left-start (rows-start 8 (a .x) 0 1 (a .xend) (a .yend) (omega arith) 8 (a .y) (omega arith));
-      from = omega arith;
-      few = omega arith;
-      even = omega arith;
-      to = omega arith;
-      size = refl;
-    }
+    let p = c .before .before .pre .1 in
+    rows-begin _ (omega arith) (omega arith)
 
 sample-row-requires : tie.Need-sample-row-requires Inv-loop μ-loop
 sample-row-requires c κs =
-    let s = c .before .before .before .before .before in
-    let b = s .pre .1 in
-    let l = c .before .before .loop in
-    let i = l .inv in (
-      given-on (l .picture) (s .pre .0) (i .size),
-      record {
-        part = record { some-column = omega arith; columns = omega arith; some-row = omega arith; rows = omega arith };
-        start = omega arith;
-        wide = omega arith;
-        high = omega arith;
-      },
-    )
+    let t = in-turn c in
+    let i = at-test t .loop .inv in
+    let s = start (at-test t) in
+    let p = s .pre .1 .1 in
+    (s .pre .0, (ready-again (s .pre .1 .0) (i .place .size), (p .0, (p .1 .0, p .1 .1, t .if1 .taken))))
 
 add-count : tie.Need-add-count Inv-loop μ-loop
-add-count c = omega arith
+add-count c =
+    let t = in-turn (called c .before) in
+    let l = at-test t in
+    omega (arith, sound-length (start l .pre .0), up-sum (l .loop .inv .place) (t .if1 .taken) (called c .sample-row .ensures .bound))
 
-add-j : tie.Need-add-j Inv-loop μ-loop
-add-j c = omega arith
+add-y : tie.Need-add-y Inv-loop μ-loop
+add-y c =
+    let t = in-turn (called c .before) in
+    let p = start (at-test t) .pre .1 in
+    let d = ready-small (p .0) in
+    omega (arith, t .if1 .taken)
 
 loop-less : tie.Need-loop-less Inv-loop μ-loop
-loop-less c = omega arith
+loop-less c = omega (arith, in-turn (called c .before) .if1 .taken)
 
 loop-again : tie.Need-loop-again Inv-loop μ-loop
 loop-again c =
-    let v = c .before .before .sample-row in
-    let t = c .before .before .before .before in
-    let i = t .before .loop .inv in
-    let a = c .before .before .before .before .before .before .before .before .args in
-    record {
-      left = left-list _ _ (rows-step 8 (a .x) 0 1 (a .xend) (a .yend) (omega arith) (t .before .loop .j) (t .loop-test .taken)) (i .left) (v .ensures .0);
-      from = omega arith;
-      few = omega arith;
-      even = omega arith;
-      to = omega arith;
-      size = v .kept .1 .1 .1 .1 .1 .0 ∙ i .size;
-    }
+    let v = called c .sample-row in
+    let t = in-turn (called c .before) in
+    let i = at-test t .loop .inv in
+    let kept = v .kept .1 .1 .1 .1 in
+    rows-again i (t .if1 .taken) (v .ensures) (kept .0)
 
 same-length : tie.Need-same-length Inv-loop μ-loop
-same-length c = c .before .loop .inv .size
+same-length c = past c .loop .inv .place .size
 
 returns : tie.Need-returns Inv-loop μ-loop
-returns c =
-    let l = c .before .loop in
-    let a = c .before .before .before .before .args in
-    (left-done (rows-end 8 (a .x) 0 1 (a .xend) (a .yend) (omega arith) (l .j) (omega arith)) (l .inv .left), omega arith)
+returns c = rows-done (past c .loop .inv) (omega arith) (omega arith)
 
 pub sample-rows-spec : {M : Type 1} → statement M
 sample-rows-spec =
@@ -84,7 +85,7 @@ sample-rows-spec =
     loop-holds
     sample-row-requires
     add-count
-    add-j
+    add-y
     loop-less
     loop-again
     same-length

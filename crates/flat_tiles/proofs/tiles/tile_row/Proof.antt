@@ -1,113 +1,96 @@
--- Tile after tile, along x.
+-- One row of tiles.
 use mathlib.Core.Path.{_≡_, refl, _∙_}
-use mathlib.Core.List.{[], _∷_}
+use mathlib.Core.Bool.{false}
 use Prim.Native.Nat.{_-_}
 use native.Mathlib.Omega.{arith}
 use lib.ListN.{length}
-use Rattle.walk.proofs.Children.{row-start, row-step, row-end}
-use Rattle.flat_tiles.proofs.Parts.{given-on}
-use Rattle.flat_tiles.proofs.Loops.{RowPlace, left-start, left-one, left-done}
+use Rattle.rules.specs.Drawings.{flatBound}
+use Rattle.walk.proofs.CellLaws.{ready-small}
+use Rattle.walk.proofs.LookLaws.{sound-length}
+use Rattle.walk.proofs.Loops.{AtColumn, row-begins, row-again, row-done}
+use Rattle.walk.proofs.Places.{up-sum, ready-again}
+use Rattle.flat_tiles.specs.Sides.{below64}
 use Rattle.flat_tiles.proofs.tiles.tile_row.Statement.{statement}
 use Rattle.flat_tiles.proofs.tiles.tile_row.Tie as tie
 
 abbrev Inv-loop : tie.InvT-loop
-Inv-loop code grid y picture₀ choices₀ first₀ second₀ width count₀ x₀ picture choices first second count x =
-    RowPlace grid code (8 ∷ (1 ∷ [])) 64 66576 0 y (grid .width) picture₀ picture count x
-    × ((length choices ≡ length choices₀) × ((length first ≡ length first₀) × (length second ≡ length second₀)))
+Inv-loop code grid rect y picture₀ choices₀ first₀ second₀ count₀ x₀ picture choices first second count x =
+    AtColumn false 64 8 flatBound code grid below64 (rect .x) (rect .xend) y 0 picture₀ picture count x
+    × (length choices ≡ length choices₀)
+    × (length first ≡ length first₀)
+    × (length second ≡ length second₀)
 
 abbrev μ-loop : tie.MeasureT-loop
-μ-loop code grid y picture₀ choices₀ first₀ second₀ width count₀ x₀ picture choices first second count x = grid .width - x
+μ-loop code grid rect y picture₀ choices₀ first₀ second₀ count₀ x₀ picture choices first second count x = rect .xend - x
+
+-- The places: before the loop, at its test, in a turn, after the call, and past the loop.
+abbrev start : tie.At-loop Inv-loop μ-loop → tie.Start Inv-loop μ-loop
+start c = c .before .before .before .before .before .before
+
+abbrev at-test : tie.Then1 Inv-loop μ-loop → tie.At-loop Inv-loop μ-loop
+at-test c = c .before .before
+
+abbrev in-turn : tie.After-visit-tile-arg4 Inv-loop μ-loop → tie.Then1 Inv-loop μ-loop
+in-turn c = c .before .before .before .before
+
+abbrev called : tie.After-slice-known8 Inv-loop μ-loop → tie.After-visit-tile Inv-loop μ-loop
+called c = c .before .before .before .before .before .before .before .before
+
+abbrev past : tie.Else1 Inv-loop μ-loop → tie.At-loop Inv-loop μ-loop
+past c = c .before .before
 
 loop-holds : tie.Need-loop-holds Inv-loop μ-loop
 loop-holds c =
-    let s = c .before .before .before .before .before in
-    let a = s .args in (
-      record {
-        left = left-start (row-start (a .y) 0 64 (a .grid .width) (omega arith) 8 0 (omega (arith, s .pre .0 .good)));
-        from = omega arith;
-        few = omega arith;
-        even = omega arith;
-        to = omega (arith, s .pre);
-        size = refl;
-      },
-      (refl, (refl, refl)),
-    )
+    let p = c .before .before .before .before .before .pre .1 in
+    let d = ready-small (p .0) in
+    (row-begins _ (omega arith) (omega arith), refl, refl, refl)
 
 visit-tile-requires : tie.Need-visit-tile-requires Inv-loop μ-loop
 visit-tile-requires c κs =
-    let s = c .before .before .before .before .before .before .before .before .before .before .before in
-    let p = s .pre in
-    let g = p .0 .good in
-    let l = c .before .before .before .before .before .loop in
-    let i = l .inv .0 in
-    let n = l .inv .1 in
-    let t = c .before .before .before .before .loop-test .taken in (
-      given-on (l .picture) (p .0) (i .size),
-      (
-        record { start = omega arith; column = omega arith; row = omega arith },
-        (omega (arith, p .1 .1), (omega (arith, p .1 .1), omega (arith, p .1 .1))),
-      ),
-    )
+    let t = in-turn c in
+    let i = at-test t .loop .inv in
+    let s = start (at-test t) in
+    let p = s .pre .1 .1 in
+    (s .pre .0, (ready-again (s .pre .1 .0) (i .0 .place .size), (record { x-in = omega (arith, t .if1 .taken); y-in = omega arith; z-in = omega arith }, (omega (arith, i .0 .place .place, p .0 .start), (omega arith, omega arith, omega arith)))))
 
 add-count : tie.Need-add-count Inv-loop μ-loop
 add-count c =
-    let i = c .before .before .before .before .before .before .before .before .before .before .before .before .before .before .loop .inv .0 in
-    let p = c .before .before .before .before .before .before .before .before .before .before .before .before .before .before .before .before .before .before .before .before .pre in
-    omega (arith, c .before .before .before .before .before .before .before .before .before .before .before .before .before .loop-test .taken, c .before .before .before .before .before .before .before .before .visit-tile .ensures .1)
+    let t = in-turn (called c .before) in
+    let l = at-test t in
+    omega (arith, sound-length (start l .pre .0), up-sum (l .loop .inv .0 .place) (t .if1 .taken) (called c .visit-tile .ensures .bound))
 
 add-x : tie.Need-add-x Inv-loop μ-loop
 add-x c =
-    let i = c .before .before .before .before .before .before .before .before .before .before .before .before .before .before .loop .inv .0 in
-    let p = c .before .before .before .before .before .before .before .before .before .before .before .before .before .before .before .before .before .before .before .before .pre in
-    omega (arith, c .before .before .before .before .before .before .before .before .before .before .before .before .before .loop-test .taken)
+    let t = in-turn (called c .before) in
+    let p = start (at-test t) .pre .1 in
+    let d = ready-small (p .0) in
+    omega (arith, t .if1 .taken)
 
 loop-less : tie.Need-loop-less Inv-loop μ-loop
-loop-less c =
-    let i = c .before .before .before .before .before .before .before .before .before .before .before .before .before .before .loop .inv .0 in
-    let p = c .before .before .before .before .before .before .before .before .before .before .before .before .before .before .before .before .before .before .before .before .pre in
-    omega (arith, c .before .before .before .before .before .before .before .before .before .before .before .before .before .loop-test .taken)
+loop-less c = omega (arith, in-turn (called c .before) .if1 .taken)
 
 loop-again : tie.Need-loop-again Inv-loop μ-loop
 loop-again c =
-    let v = c .before .before .before .before .before .before .before .before .visit-tile in
-    let w = v .ensures .1 in
-    let t = c .before .before .before .before .before .before .before .before .before .before .before .before .before .loop-test .taken in
-    let l = c .before .before .before .before .before .before .before .before .before .before .before .before .before .before .loop in
-    let i = l .inv .0 in
-    let n = l .inv .1 in
-    let a = c .before .before .before .before .before .before .before .before .before .before .before .before .before .before .before .before .before .before .before .before .args in (
-      record {
-        left = left-one (row-step (a .y) 0 64 (a .grid .width) (omega arith) (l .x) t) (i .left) (v .ensures .0);
-        from = omega arith;
-        few = omega arith;
-        even = omega arith;
-        to = omega arith;
-        size = v .kept .1 .1 .1 .1 .0 ∙ i .size;
-      },
-      (v .kept .1 .1 .1 .1 .1 .0 ∙ n .0, (v .kept .1 .1 .1 .1 .1 .1 .0 ∙ n .1 .0, v .kept .1 .1 .1 .1 .1 .1 .1 .0 ∙ n .1 .1)),
-    )
+    let v = called c .visit-tile in
+    let t = in-turn (called c .before) in
+    let i = at-test t .loop .inv in
+    let kept = v .kept .1 .1 .1 .1 in
+    (row-again (i .0) (t .if1 .taken) (v .ensures) (kept .0), kept .1 .0 ∙ i .1, kept .1 .1 .0 ∙ i .2, kept .1 .1 .1 .0 ∙ i .3)
 
 same-length : tie.Need-same-length Inv-loop μ-loop
-same-length c = c .before .loop .inv .0 .size
+same-length c = past c .loop .inv .0 .place .size
 
 same-length-2 : tie.Need-same-length-2 Inv-loop μ-loop
-same-length-2 c = c .before .loop .inv .1 .0
+same-length-2 c = past c .loop .inv .1
 
 same-length-3 : tie.Need-same-length-3 Inv-loop μ-loop
-same-length-3 c = c .before .loop .inv .1 .1 .0
+same-length-3 c = past c .loop .inv .2
 
 same-length-4 : tie.Need-same-length-4 Inv-loop μ-loop
-same-length-4 c = c .before .loop .inv .1 .1 .1
+same-length-4 c = past c .loop .inv .3
 
 returns : tie.Need-returns Inv-loop μ-loop
-returns c =
-    let s = c .before .before .before .before .before .before .before in
-    let a = s .args in
-    let p = s .pre in
-    let g = p .0 .good in
-    let l = c .before .loop in
-    let i = l .inv .0 in
-    (left-done (row-end (a .y) 0 64 (a .grid .width) (omega arith) (l .x) (omega arith)) (i .left), omega arith)
+returns c = row-done (past c .loop .inv .0) (omega arith) (omega arith)
 
 pub tile-row-spec : {M : Type 1} → statement M
 tile-row-spec =

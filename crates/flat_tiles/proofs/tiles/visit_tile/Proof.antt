@@ -1,70 +1,79 @@
--- Drawn after one look, or by its regions of side 8 with the short tape.
-use mathlib.Core.Path.{_≡_, subst}
-use mathlib.Core.List.{[], _∷_}
+-- Done by the look, or cut and its children visited.
+use mathlib.Core.Path.{_≡_, refl, ap}
+use mathlib.Core.Bool.{false}
+use Prim.Native.Nat.{_*_, _%_}
 use native.Mathlib.Omega.{arith}
-use Rattle.rules.specs.Drawings.{region}
-use Rattle.flat_tiles.specs.declared.verdict.Verdict.{Verdict}
-use Rattle.flat_tiles.specs.Flats.{Block, Looked, Open}
-use Rattle.flat_tiles.proofs.Parts.{given-on, given-cut, ends, wider}
-use Rattle.flat_tiles.proofs.Levels.{level-cut}
+use Rattle.rules.specs.Drawings.{flatBound, Region, region}
+use Rattle.walk.specs.Cells.{CellOf, regionIn}
+use Rattle.walk.specs.Walks.{Opened}
+use Rattle.walk.proofs.CellLaws.{ready-small}
+use Rattle.walk.proofs.LookLaws.{sound-length, done-of, open-of, done-visits, open-sound, open-fewer, open-rows}
+use Rattle.walk.proofs.Places.{ready-again}
+use Rattle.flat_tiles.specs.Sides.{below8}
 use borrow.Author.Needs.{needs}
 use Rattle.flat_tiles.proofs.tiles.visit_tile.Statement.{statement}
 use Rattle.flat_tiles.proofs.tiles.visit_tile.Tie as tie
 
--- The region's ends, and what the look at it leaves.
-block : (c : tie.After-lesser2)
-    → let a = c .before .before .before .before .before .before .before .args in Block (a .grid) 64 (a .x) (c .before .lesser .result) (a .y) (c .lesser2 .result)
-block c = ends 64 _ _ (omega arith) (c .before .before .before .before .before .before .before .pre .1 .0) (c .before .lesser .ensures) (c .lesser2 .ensures)
+-- The places: once the cell is made, after the look, the arm of a cut, the call for its children, and after it.
+abbrev start : tie.After-cell-at → tie.Start
+start c = c .before .before .before .before .before .before
 
-looked : (c : tie.After-look) {v : Verdict} → c .look .result ≡ v → let a = c .before .before .before .before .before .before .before .before .before .before .before .args in
-    Looked (a .grid) (a .code .now) (region (a .x) (a .y) 0 64) (a .picture .now) (c .look .last .1 .1 .1 .1 .1 .1 .0) (c .look .last .1 .1 .1 .1 .1 .1 .1 .1 .0) v
-looked c e =
-    let a = c .before .before .before .before .before .before .before .before .before .before .before .args in
-    subst
-    (λ (v : Verdict). Looked (a .grid) (a .code .now) (region (a .x) (a .y) 0 64) (a .picture .now) (c .look .last .1 .1 .1 .1 .1 .1 .0) (c .look .last .1 .1 .1 .1 .1 .1 .1 .1 .0) v)
-    e
-    (c .look .ensures 64 (c .before .before .before .before .before .lesser .ensures) (c .before .before .before .before .lesser2 .ensures))
+abbrev with-cell : tie.After-look → tie.After-cell-at
+with-cell c = c .before .before .before .before
 
-undone : (c : tie.After-known-told)
-    → let a = c .before .before .before .before .before .before .before .before .before .before .before .before .before .before .before .before .before .before .before .before .args in
-    let l = c .before .before .before .before .before .before .before .before .before .look .last in
-    Open (a .grid) (a .code .now) (region (a .x) (a .y) 0 64) (a .picture .now) (l .1 .1 .1 .1 .1 .1 .0) (l .1 .1 .1 .1 .1 .1 .1 .1 .0) (c .before .start .given .0 .0)
-undone c = looked (c .before .before .before .before .before .before .before .before .before) (c .before .start .given .1)
+abbrev looked : tie.After-known-told2 → tie.After-look
+looked c = c .before .before .before .before .before .before .before .before .before
 
-add-lesser : tie.Need-add-lesser
-add-lesser c = search needs
+abbrev in-cut : tie.After-eight-rows-arg3 → tie.After-known-told2
+in-cut c = c .before .before .before .before .before
 
-lesser-requires : tie.Need-lesser-requires
-lesser-requires c κs = search needs
+abbrev visited : tie.After-slice-known10 → tie.After-eight-rows
+visited c = c .before .before .before .before .before .before
 
-add-lesser-2 : tie.Need-add-lesser-2
-add-lesser-2 c = search needs
+-- What is known at them.
+made : (c : tie.After-cell-at) → let a = start c .args in CellOf 1 (a .grid) (region (a .x) (a .y) 0 64) (c .cell-at .result)
+made c = c .cell-at .ensures
 
-lesser-requires-2 : tie.Need-lesser-requires-2
-lesser-requires-2 c κs = search needs
+begins : (c : tie.After-cell-at) → c .cell-at .result .x % 8 ≡ 0
+begins c = omega (arith, ap (λ (q : Region). q .i) (made c .same), start c .pre .1 .1 .1 .0)
+
+opened : (c : tie.After-known-told2)
+    → let j = looked c in
+    let a = start (with-cell j) .args in
+    Opened false (a .code .now) (a .grid) (regionIn (with-cell j .cell-at .result)) (a .picture .now) (j .look .last .1 .1 .1 .0)
+    (j .look .last .1 .1 .1 .1 .1 .0) (c .before .seen2 .given .0 .0)
+opened c = open-of false _ _ _ _ _ _ (looked c .look .ensures) (c .before .seen2 .given .1)
+
+cell-at-requires : tie.Need-cell-at-requires
+cell-at-requires c κs =
+    let s = c .before .before .before .before .before in
+    (ready-small (s .pre .1 .0), (s .pre .1 .1 .0, (omega arith, omega arith)))
 
 look-requires : tie.Need-look-requires
 look-requires c κs =
-    let p = c .before .before .before .before .before .before .before .before .before .before .pre in
-    (p .0, (wider 64 64 (omega arith) (block (c .before .before .before)), (omega (arith, p .1 .1), omega (arith, p .1 .1))))
+    let k = c .before .before .before in
+    let p = start k .pre in
+    let r = p .1 .1 .1 .1 in
+    (p .0, (p .1 .0, (made k .ok, (begins k, (omega arith, omega arith)))))
 
-enum-told : tie.Need-enum-told
-enum-told c = search needs
+enum-known-seen : tie.Need-enum-known-seen
+enum-known-seen c = search needs
 
-enum-told-2 : tie.Need-enum-told-2
-enum-told-2 c = search needs
-
-enum-known-start : tie.Need-enum-known-start
-enum-known-start c = search needs
+enum-known-seen-2 : tie.Need-enum-known-seen-2
+enum-known-seen-2 c = search needs
 
 mul-short : tie.Need-mul-short
-mul-short c = omega (arith, undone c .cut .start, c .before .before .before .before .before .before .before .before .before .look .kept .1 .1 .1 .1 .1 .1 .1 .1 .0, c .before .before .before .before .before .before .before .before .before .before .before .before .before .before .before .before .before .before .before .before .good)
+mul-short c =
+    let j = looked c in
+    let o = opened c .cut .start in
+    let g = start (with-cell j) .good in
+    omega (arith, j .look .kept .1 .1 .1 .1 .1 .0)
 
 sub-short : tie.Need-sub-short
-sub-short c = undone c .cut .start
+sub-short c = opened c .cut .start
 
 part-short-start : tie.Need-part-short-start
-part-short-start c = undone (c .before) .cut .start
+part-short-start c = opened (c .before) .cut .start
 
 part-short-end : tie.Need-part-short-end
 part-short-end c = search needs
@@ -72,14 +81,23 @@ part-short-end c = search needs
 -- Both tapes are sound; which of them is lent shows in what is drawn and counted.
 eight-rows-requires : tie.Need-eight-rows-requires
 eight-rows-requires c κs =
-    let p = c .before .before .before .before .before .before .before .before .before .before .before .before .before .before .before .before .before .before .before .before .before .before .before .before .before .pre in
-    let l = c .before .before .before .before .before .before .before .before .before .before .before .before .before .before .look in
-    let own = given-on (l .last .1 .1 .1 .1 .1 .1 .0) (p .0) (l .kept .1 .1 .1 .1 .1 .1 .0) in
-    let cut = given-cut own (undone (c .before .before .before .before .before) .cut) in
-    (search (cut, own), (block (c .before .before .before .before .before .before .before .before .before .before .before .before .before .before .before .before .before .before), (omega (arith, p .1 .1, l .kept .1 .1 .1 .1 .1 .1 .1 .0), omega (arith, p .1 .1))))
+    let t = in-cut c in
+    let j = looked t in
+    let k = with-cell j in
+    let p = start k .pre in
+    let r = p .1 .1 .1 .1 in
+    let f = open-fewer (p .0) (opened t) in
+    let short = open-sound (p .0) (opened t) in (
+      search (short, p .0),
+      (ready-again (p .1 .0) (j .look .kept .1 .1 .1 .0), (made k .ok, ((ap (λ (q : Region). q .long) (made k .same), begins k), (omega arith, omega arith)))),
+    )
 
 add-result : tie.Need-add-result
-add-result c = omega (arith, c .before .before .before .before .before .before .before .before .before .before .before .before .before .before .before .before .before .before .before .before .before .before .before .before .before .before .before .before .before .before .before .before .pre .0 .few, c .before .before .before .before .before .before .eight-rows .ensures .1)
+add-result c =
+    let u = visited c in
+    let t = in-cut (u .before) in
+    let s = start (with-cell (looked t)) in
+    omega (arith, sound-length (s .pre .0), open-fewer (s .pre .0) (opened t), u .eight-rows .ensures .bound)
 
 same-length : tie.Need-same-length
 same-length c = search needs
@@ -91,7 +109,9 @@ same-length-3 : tie.Need-same-length-3
 same-length-3 c = search needs
 
 returns : tie.Need-returns
-returns c = (looked (c .before .before .before .before .before .before .before .before) (c .enum-told .given .1) .drawn 8 (1 ∷ []), omega (arith, c .before .before .before .before .before .before .before .before .before .before .before .before .before .before .before .before .before .before .before .pre .0 .few))
+returns c =
+    let j = c .before .before .before .before .before .before .before .before .before in
+    done-visits flatBound 8 below8 (made (with-cell j) .same) (omega arith) (done-of false _ _ _ _ _ _ (j .look .ensures) (c .before .seen .given .1))
 
 same-length-4 : tie.Need-same-length-4
 same-length-4 c = search needs
@@ -102,41 +122,24 @@ same-length-5 c = search needs
 same-length-6 : tie.Need-same-length-6
 same-length-6 c = search needs
 
-returns-2 : tie.Need-returns-2
-returns-2 c = (looked (c .before .before .before .before .before .before .before .before) (c .enum-told2 .given .1) .drawn 8 (1 ∷ []), omega (arith, c .before .before .before .before .before .before .before .before .before .before .before .before .before .before .before .before .before .before .before .pre .0 .few))
-
 same-length-7 : tie.Need-same-length-7
 same-length-7 c = search needs
 
-same-length-8 : tie.Need-same-length-8
-same-length-8 c = search needs
-
-same-length-9 : tie.Need-same-length-9
-same-length-9 c = search needs
-
-same-length-10 : tie.Need-same-length-10
-same-length-10 c = search needs
-
-returns-3 : tie.Need-returns-3
-returns-3 c =
-    let u = c .before .before .before .before .before .before .eight-rows in (
-      level-cut _ _ 64 _ _ _ _ 8 (1 ∷ []) (c .before .before .before .before .before .before .before .before .before .before .before .before .before .before .before .before .before .before .before .before .before .before .before .before .before .before .lesser .ensures) (c .before .before .before .before .before .before .before .before .before .before .before .before .before .before .before .before .before .before .before .before .before .before .before .before .before .lesser2 .ensures)
-          (record { positive = omega arith; parts = omega arith; some-part = omega arith }) (undone (c .before .before .before .before .before .before .before .before .before .before .before .before)) (u .ensures .0),
-      omega (arith, c .before .before .before .before .before .before .before .before .before .before .before .before .before .before .before .before .before .before .before .before .before .before .before .before .before .before .before .before .before .before .before .before .pre .0 .few, u .ensures .1),
-    )
+returns-2 : tie.Need-returns-2
+returns-2 c =
+    let u = visited c in
+    let t = in-cut (u .before) in
+    let k = with-cell (looked t) in
+    open-rows 8 8 (start k .pre .0) (omega arith) (omega arith) refl (made k) (opened t) below8 (64 * 65) (u .eight-rows .ensures)
 
 pub visit-tile-spec : {M : Type 1} → statement M
 visit-tile-spec =
     tie.close
     (tie.spec
-    add-lesser
-    lesser-requires
-    add-lesser-2
-    lesser-requires-2
+    cell-at-requires
     look-requires
-    enum-told
-    enum-told-2
-    enum-known-start
+    enum-known-seen
+    enum-known-seen-2
     mul-short
     sub-short
     part-short-start
@@ -150,9 +153,5 @@ visit-tile-spec =
     same-length-4
     same-length-5
     same-length-6
-    returns-2
     same-length-7
-    same-length-8
-    same-length-9
-    same-length-10
-    returns-3)
+    returns-2)

@@ -5,9 +5,10 @@ use Prim.Native.Nat.{_≤_}
 use native.Mathlib.Omega.{arith}
 use lib.ListN.{length, replicate}
 use lib.Seq.{length-take-le}
+use Rattle.walk.proofs.LookLaws.{sound-length}
 use Rattle.layers.proofs.Refusals.{flat-size}
 use Rattle.layers.proofs.Drawing.{ready, words-room}
-use Rattle.layers.proofs.Tiling.{sound, flat-picture, tiles-refused, tiles-short, tiles-done}
+use Rattle.layers.proofs.Tiling.{sound, tiles-refused, tiles-short, tiles-done}
 use borrow.Author.Needs.{needs}
 use Rattle.layers.proofs.flat.tile_flat.Statement.{statement}
 use Rattle.layers.proofs.flat.tile_flat.Tie as tie
@@ -40,7 +41,8 @@ tile-flat-requires c κs =
     let e = b .before in
     let f = e .before .prepare .ensures in
     let k = ready f (e .if1 .left) in
-    (sound f (e .if1 .left), (k .grid, (k .size ∙ sym (flat-size false _ refl), omega (arith, b .if2 .left))))
+    let w = sound f (e .if1 .left) in
+    (w, (record { fault = k .grid; size = k .size ∙ sym (flat-size false _ refl) }, omega (arith, b .if2 .left, sound-length w)))
 
 clear-requires : tie.Need-clear-requires
 clear-requires c κs = search needs
@@ -58,7 +60,7 @@ returns-3 c =
     let u = c .before .before .before .before .before .before .before .before .tile-flat in
     let v = u .ensures in
     tiles-done false _ _ _ _ _ _ _ _ _ _ (e .before .prepare .ensures) (e .if1 .left) (b .if2 .left)
-    (record { pixels = λ n a. v .picture n a ∙ flat-picture _ _; count = v .count }) (c .before .before .clear .ensures ∙ ap (λ m. replicate m 0) (u .kept .1 .1 .1 .0)) refl refl
+    (record { pixels = v .pixels; count = v .count }) (c .before .before .clear .ensures ∙ ap (λ m. replicate m 0) (u .kept .1 .1 .1 .0)) refl refl
 
 pub tile-flat-spec : {M : Type 1} → statement M
 tile-flat-spec =

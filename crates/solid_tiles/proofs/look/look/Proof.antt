@@ -4,21 +4,21 @@ use native.Mathlib.Omega.{arith}
 use Rattle.picture.specs.Shapes.{gridIn}
 use Rattle.walk.specs.Cells.{regionIn}
 use Rattle.walk.specs.Draws.{Hidden, Same}
-use Rattle.walk.proofs.CellLaws.{cell-spans}
 use Rattle.walk.proofs.LookLaws.{sound-runs, full-of, empty-of, mixed-of, done-hidden, done-full, done-empty, opened}
 use borrow.Author.Needs.{needs}
 use Rattle.solid_tiles.proofs.look.look.Statement.{statement}
 use Rattle.solid_tiles.proofs.look.look.Tie as tie
 
--- The places: the start, once the region is known to be seen, and the run over ranges, once the verdict is there.
+-- The places: the start, once the region is known to be seen, the box, once its range is there, and that, once there is a
+-- verdict.
 abbrev start : tie.Else1 → tie.Start
 start c = c .before .before .before .before .before .before .before
 
-abbrev ranged : tie.After-verdict-on → tie.After-cell-range
+abbrev ranged : tie.After-verdict-on → tie.After-run-ranges
 ranged c = c .before .before .before
 
-abbrev unhidden : tie.After-cell-range → tie.Else1
-unhidden c = c .before .before
+abbrev with-box : tie.After-run-ranges → tie.After-solid-bounds
+with-box c = c .before .before
 
 seen : (c : tie.Else1)
     → Hidden Same (gridIn (start c .args .grid) true) (regionIn (start c .args .c)) (start c .args .picture .now) false
@@ -33,11 +33,14 @@ same-length c = search needs
 returns : tie.Need-returns
 returns c = done-hidden true (rw (c .if1 .taken) at (c .before .is-hidden .ensures))
 
-cell-range-requires : tie.Need-cell-range-requires
-cell-range-requires c κs =
-    let s = start (c .before) in
-    let p = s .pre .1 in
-    (sound-runs (s .pre .0), (cell-spans true _ _ (p .1 .0) (p .0 .fault), p .1 .1 .0))
+solid-bounds-requires : tie.Need-solid-bounds-requires
+solid-bounds-requires c κs = let p = start c .pre .1 in (p .0 .fault, p .1 .0)
+
+run-ranges-requires : tie.Need-run-ranges-requires
+run-ranges-requires c κs =
+    let b = c .before in
+    let p = start (b .before) .pre in
+    (sound-runs (p .0), (b .solid-bounds .ensures .ok, p .1 .1 .1 .0))
 
 verdict-on-requires : tie.Need-verdict-on-requires
 verdict-on-requires c κs = search needs
@@ -46,7 +49,7 @@ enum-told : tie.Need-enum-told
 enum-told c = search needs
 
 fill-requires : tie.Need-fill-requires
-fill-requires c κs = search needs
+fill-requires c κs = let p = start (with-box (ranged (c .before .before .before)) .before) .pre .1 in (p .0, p .1 .0)
 
 enum-told-2 : tie.Need-enum-told-2
 enum-told-2 c = search needs
@@ -57,7 +60,7 @@ enum-told-3 c = search needs
 shorten-requires : tie.Need-shorten-requires
 shorten-requires c κs =
     let j = ranged (c .before .before .before .before) in
-    let s = start (unhidden j) in
+    let s = start (with-box j .before) in
     let r = s .pre .1 .1 .1 in
     (sound-runs (s .pre .0), (omega arith, omega arith))
 
@@ -73,9 +76,8 @@ returns-2 c =
     let told = filled .before .before in
     let v = told .before .before in
     let j = ranged v in
-    let u = unhidden j in
-    let p = start u .pre .1 in
-    done-full true (p .1 .0) (p .0 .fault) (seen u) (j .cell-range .ensures)
+    let b = with-box j in
+    done-full true (b .solid-bounds .ensures) (seen (b .before)) (j .run-ranges .ensures)
     (full-of _ (v .verdict-on .ensures) (told .enum-told .given .1)) (filled .fill .ensures)
 
 same-length-4 : tie.Need-same-length-4
@@ -88,9 +90,8 @@ returns-3 : tie.Need-returns-3
 returns-3 c =
     let v = c .before .before in
     let j = ranged v in
-    let u = unhidden j in
-    let p = start u .pre .1 in
-    done-empty true (p .1 .0) (p .0 .fault) (seen u) (j .cell-range .ensures)
+    let b = with-box j in
+    done-empty true (b .solid-bounds .ensures) (seen (b .before)) (j .run-ranges .ensures)
     (empty-of _ (v .verdict-on .ensures) (c .enum-told2 .given .1))
 
 same-length-6 : tie.Need-same-length-6
@@ -109,10 +110,9 @@ returns-4 c =
     let told = shortened .before .before .before in
     let v = told .before .before in
     let j = ranged v in
-    let u = unhidden j in
-    let p = start u .pre .1 in
-    opened true (p .1 .0) (p .0 .fault) (seen u) (j .cell-range .ensures)
-    (mixed-of _ (v .verdict-on .ensures) (told .enum-told3 .given .1)) (w .ensures) (w .kept .1 .1 .0)
+    let b = with-box j in
+    opened true (b .solid-bounds .ensures) (seen (b .before)) (j .run-ranges .ensures)
+    (mixed-of _ (v .verdict-on .ensures) (told .enum-told3 .given .1)) (shortened .shorten .ensures) (shortened .shorten .kept .1 .1 .0)
 
 pub look-spec : {M : Type 1} → statement M
 look-spec =
@@ -121,7 +121,8 @@ look-spec =
     is-hidden-requires
     same-length
     returns
-    cell-range-requires
+    solid-bounds-requires
+    run-ranges-requires
     verdict-on-requires
     enum-told
     fill-requires

@@ -11,10 +11,10 @@ use Rattle.rules.proofs.Words.{read, back}
 use Rattle.picture.specs.Shapes.{gridIn}
 use Rattle.picture.proofs.GridWords.{InWords, in-words}
 use Rattle.walk.proofs.Signs.{sign}
-use Rattle.walk.proofs.CellLaws.{small, z-value}
+use Rattle.walk.proofs.CellLaws.{small}
 use Rattle.walk.proofs.LookLaws.{sound-runs}
 use Rattle.solid_tiles.proofs.SampleLaws.{at-words, pixel-most, pixel-in, x-value}
-use Rattle.solid_tiles.proofs.SampleLaws.{y-value, sample-same, sample-ok, sample-hidden}
+use Rattle.solid_tiles.proofs.SampleLaws.{y-value, z-value, sample-same, sample-ok, sample-hidden}
 use Rattle.solid_tiles.proofs.SampleLaws.{sample-skips, sample-fills}
 use borrow.Author.Needs.{needs}
 use Rattle.solid_tiles.proofs.samples.visit_sample.Statement.{statement}
@@ -118,7 +118,7 @@ sample-requires-3 c κs =
     let t = to-z c in
     let f = told t in
     let p = seen t .pre .1 in
-    rw (at-words _ (f .zfirst) (f .zstep)) (z-value true _ (p .0 .fault) _ (p .1 .z-in))
+    rw (at-words _ (f .zfirst) (f .zstep)) (z-value _ _ _ _ (p .1) (p .0 .fault))
 
 run-values-requires : tie.Need-run-values-requires
 run-values-requires c κs =

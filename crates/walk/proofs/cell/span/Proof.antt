@@ -1,20 +1,24 @@
 -- Both ends are samples.
+use native.Mathlib.Omega.{arith}
 use mir.Syntax.{w32}
 use Rattle.rules.specs.Values.{range}
 use Rattle.rules.proofs.Words.{back, both}
-use Rattle.walk.proofs.CellLaws.{span-read}
+use Rattle.walk.proofs.CellLaws.{span-words, span-read}
 use borrow.Author.Needs.{needs}
 use Rattle.walk.proofs.cell.span.Statement.{statement}
 use Rattle.walk.proofs.cell.span.Tie as tie
 
 sample-requires : tie.Need-sample-requires
-sample-requires c κs = search needs
+sample-requires c κs = let f = c .fits in span-words (f .first) (f .step) (c .pre) .values _ (omega arith)
 
 sub-sample : tie.Need-sub-sample
 sub-sample c = search needs
 
 sample-requires-2 : tie.Need-sample-requires-2
-sample-requires-2 c κs = search needs
+sample-requires-2 c κs =
+    let s = c .before in
+    let f = s .fits in
+    span-words (f .first) (f .step) (s .pre) .values _ (omega arith)
 
 returns : tie.Need-returns
 returns c =
