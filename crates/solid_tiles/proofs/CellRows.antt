@@ -16,7 +16,7 @@ use Rattle.walk.specs.Draws.{Fills, Hidden, Same}
 use Rattle.walk.specs.declared.cell.Cell.{Cell}
 use Rattle.walk.proofs.CellLaws.{small, kind}
 use Rattle.walk.proofs.Draws.{hidden-same}
-use Rattle.walk.proofs.Rows.{fills-same}
+use Rattle.walk.proofs.Filling.{fills-same}
 
 -- A pixel's index.
 pub index-most : (y w x h : ℕ) → y < h → x < w → w ≤ 512 → h ≤ 512 → y * w + x < 262144

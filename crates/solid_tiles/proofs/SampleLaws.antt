@@ -26,7 +26,7 @@ use Rattle.walk.specs.Draws.{Hidden, Same}
 use Rattle.walk.specs.Cells.{Ready, InGrid}
 use Rattle.walk.specs.Walks.{Sound, Visits}
 use Rattle.walk.proofs.Draws.{hidden-same, draws-count, draws-hidden, draws-sample-full, draws-sample-empty}
-use Rattle.walk.proofs.Rows.{hidden-sample, fill-sample, raises-same}
+use Rattle.walk.proofs.Filling.{hidden-sample, fill-sample, raises-same}
 use Rattle.walk.proofs.Children.{part-one}
 use Rattle.walk.proofs.CellLaws.{small, kind}
 use Rattle.walk.proofs.LookLaws.{fit-of}

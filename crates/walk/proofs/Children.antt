@@ -89,14 +89,6 @@ unfoldable pub rowsLeft : ℕ → ℕ → ℕ → ℕ → ℕ → ℕ → ℕ �
 rowsLeft y l i k n px py = upLeft y n py (λ b. alongX l i b k n px)
 
 module _ (j k n px : ℕ) (some : 1 ≤ n) where
-  -- With the counter, of whatever l.
-  pub row-cons : (l x : ℕ) → x < px → alongX (suc l) x j k n px ≡ region x j k n ∷ alongX l (x + n) j k n px
-  unfolding alongX
-  row-cons l x h = rw (lt-ltb x px h)
-
-  pub row-none : (l x : ℕ) → px ≤ x → alongX l x j k n px ≡ []
-  row-none l x h = along-x l x j k n px ∙ none-up n px (λ a. region a j k n ∷ []) some l x h
-
   pub row-start : (l x : ℕ) → px ≤ x + l * n → alongX l x j k n px ≡ rowLeft x j k n px
   unfolding rowLeft
   row-start l x h = along-x l x j k n px ∙ up-start n px (λ a. region a j k n ∷ []) some l x h
@@ -113,14 +105,6 @@ rows-along : (m l i j k n px py : ℕ) → alongY m l i j k n px py ≡ along tr
 rows-along m l i j k n px py = simp (along-x, along-y)
 
 module _ (l i k n px py : ℕ) (some : 1 ≤ n) where
-  pub rows-cons : (m y : ℕ) → y < py → alongY (suc m) l i y k n px py ≡ alongX l i y k n px ++ alongY m l i
-      (y + n) k n px py
-  unfolding alongY
-  rows-cons m y h = rw (lt-ltb y py h)
-
-  pub rows-none : (m y : ℕ) → py ≤ y → alongY m l i y k n px py ≡ []
-  rows-none m y h = rows-along m l i y k n px py ∙ none-up n py (λ b. alongX l i b k n px) some m y h
-
   pub rows-start : (m y : ℕ) → py ≤ y + m * n → alongY m l i y k n px py ≡ rowsLeft y l i k n px py
   unfolding rowsLeft
   rows-start m y h = rows-along m l i y k n px py ∙ up-start n py (λ b. alongX l i b k n px) some m y h
@@ -218,11 +202,3 @@ pub tiles-flat : (g : Grid) → solid g ≡ false → Fits g → children g whol
 tiles-flat g e f =
     children-rows g whole 64 8 e steps-whole refl
     ∙ rw (lesser-first (g .width) 512 (f .width), lesser-first (g .height) 512 (f .height))
-
-pub tiles-solid : (g : Grid) → solid g ≡ true → Fits g
-    → children g whole 64 ≡ alongZ 8 8 0 0 0 64 (g .width) (g .height) (g .depth)
-tiles-solid g e f =
-    let h : g .depth ≤ 512 = rw e at (f .layers) in
-    children-layers g whole 64 8 e steps-whole
-    ∙ rw (lesser-first (g .width) 512 (f .width), lesser-first (g .height) 512 (f .height))
-    (rw (lesser-first (g .depth) 512 h))

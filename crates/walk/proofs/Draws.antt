@@ -48,23 +48,14 @@ module _ {R : List ℕ → List ℕ → Type 0} (F : Region → State → State)
   unfolding fold
   fold-none b = draws-none R b
 
-  pub fold-one : (q : Region) (qs : List Region) {a b e : List ℕ} {c d : ℕ}
-      → Draws R (F q) a b c → Draws R (fold F qs) b e d → Draws R (fold F (q ∷ qs)) a e (c + d)
-  unfolding fold
-  fold-one q qs u v = draws-then u v
-
   pub fold-list : (xs ys : List Region) {a b e : List ℕ} {c d : ℕ}
       → Draws R (fold F xs) a b c → Draws R (fold F ys) b e d → Draws R (fold F (xs ++ ys)) a e (c + d)
   fold-list xs ys u v = draws-same (λ s h. fold-append F xs ys s) (draws-then u v)
 
--- The count by another name; and at most m, if a state is shown of which that is known.
+-- The count by another name.
 pub draws-count : {R : List ℕ → List ℕ → Type 0} {f : State → State} {b b′ : List ℕ} {c d : ℕ} → c ≡ d
     → Draws R f b b′ c → Draws R f b b′ d
 draws-count e u = rw e at u
-
-pub draws-most : {R : List ℕ → List ℕ → Type 0} {f : State → State} {b b′ : List ℕ} {c : ℕ} → Draws R f b b′ c
-    → (s : State) (m : ℕ) → R b (s .heights) → f s .clauses ≤ s .clauses + m → c ≤ m
-draws-most u s m h k = omega (arith, u .count s h)
 
 -- A loop in the middle of its work: whatever draws g from b on, draws f from b₀, after c clauses.
 pub record Rest (R : List ℕ → List ℕ → Type 0) (f g : State → State) (b₀ b : List ℕ) (c : ℕ) : Type 0 where

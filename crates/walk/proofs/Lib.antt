@@ -4,7 +4,7 @@
 -- case (LookLaws), and the whole drawing `walk-shown` (WalkLaws).
 pub mod Draws
 pub mod Children
-pub mod Rows
+pub mod Filling
 pub mod Signs
 pub mod CellLaws
 pub mod LookLaws
