@@ -3,7 +3,7 @@ use mathlib.Core.Path.{refl, sym, ap, _∙_}
 use mathlib.Core.Bool.{false}
 use Prim.Native.Nat.{_*_, _≤_}
 use native.Mathlib.Omega.{arith}
-use Rattle.layers.proofs.Refusals.{flat-size}
+use Rattle.layers.proofs.StepLaws.{flat-size}
 use Rattle.netpbm.proofs.FileLaws.{Sides, most-bytes}
 use Rattle.program.proofs.Layers.{sides}
 use borrow.Author.Needs.{needs}
