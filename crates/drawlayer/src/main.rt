@@ -1,5 +1,5 @@
-// The program: a grid record and a tape on standard input, the file on standard output and the count on descriptor 2, or the
-// refusal on standard output.
+// The program: a grid record and a tape on standard input, the file on standard output and the count on descriptor 2,
+// or the refusal on standard output.
 use program::LINE;
 use program::OUTPUT;
 use program::draw_layer;

@@ -1,5 +1,5 @@
--- Demand 3 of the calls: a tile drawing that is not turned down leaves the full drawing's picture, whatever the lent buffers
--- held, and counts the walk's sum, each 64-tile's part of which is bounded.
+-- Demand 3 of the calls: a tile drawing that is not turned down leaves the full drawing's picture, whatever the lent
+-- buffers held, and counts the walk's sum, each 64-tile's part of which is bounded.
 use mathlib.Core.Path.{_≡_, sym, ap, _∙_}
 use mathlib.Core.Bool.{Bool, true, false}
 use mathlib.Core.List.{List}

@@ -39,7 +39,8 @@ unfolding picture
 solid-picture g h = refl
 
 -- The words are those of an accepted tape.
-pub sound : {s ws ws′ : List ℕ} {q : Checked} → Opens s ws ws′ q → readTape s .number ≡ 0 → Sound (take (q .clauses) ws′)
+pub sound : {s ws ws′ : List ℕ} {q : Checked} → Opens s ws ws′ q → readTape s .number ≡ 0
+    → Sound (take (q .clauses) ws′)
 sound {s} o e = record { slots = readTape s .tape .slots; accepted = words-accepted o e }
 
 -- The lines as the code has them.

@@ -68,8 +68,8 @@ lengthFault isSolid g n = when (not (eqb n (pictureSize isSolid g))) 12
 abbrev pub workFault : ℕ → ℕ
 workFault m = when (ltb m D.workLimit) 13
 
--- "Drawing checks 1 to 4, then 5 to 9 clause by clause, then 10 to 13 (in full, 10 to 12)": n is the picture's length, m
--- the work buffer's. Reading the tape has lines 1 to 9, the grid 10 and 11.
+-- "Drawing checks 1 to 4, then 5 to 9 clause by clause, then 10 to 13 (in full, 10 to 12)": n is the picture's length,
+-- m the work buffer's. Reading the tape has lines 1 to 9, the grid 10 and 11.
 abbrev pub drawLines : Bool → List ℕ → D.Grid → ℕ → List ℕ
 drawLines isSolid s g n = readTape s .number ∷ (D.gridFault isSolid g ∷ (lengthFault isSolid g n ∷ []))
 

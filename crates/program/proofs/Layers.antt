@@ -110,7 +110,8 @@ tiled {n = n} {p} z w f e h k c =
       back = come-back p z n (k ∙ l);
     }
 
-module _ {t : Bool} {s : List ℕ} {d : Grid} {n : ℕ} {z p w w′ : List ℕ} {a : Answer} (f : Tiled t s d n z p w w′ a) where
+module _ {t : Bool} {s : List ℕ} {d : Grid} {n : ℕ} {z p w w′ : List ℕ} {a : Answer}
+    (f : Tiled t s d n z p w w′ a) where
   same : Calls.tileFault t s (gridIn d t) (length (take n z)) (length w) ≡ layerFault t s (gridIn d t)
   same = tile-fault t s d (length (take n z)) (length w) (f .lent)
 
@@ -129,7 +130,8 @@ module _ {t : Bool} {s : List ℕ} {d : Grid} {n : ℕ} {z p w w′ : List ℕ} 
   pub pixels : a .number ≡ 0 → n ≡ pictureSize t (gridIn d t)
   pixels e = f .size (taken e)
 
-  pub layer-refused : (o : List ℕ) (r : Drawn) → (a .number ≡ 0 → ⊥) → r .answer ≡ a → r .length ≡ 0 → FileSays t s d o o r
+  pub layer-refused : (o : List ℕ) (r : Drawn) → (a .number ≡ 0 → ⊥) → r .answer ≡ a → r .length ≡ 0
+      → FileSays t s d o o r
   layer-refused o r h e y =
       let x = layerFault t s (gridIn d t) in
       let k : eqb x 0 ≡ false = ne-eqb x 0 (λ v. h (told .number ∙ v)) in

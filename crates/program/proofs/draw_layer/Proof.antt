@@ -23,7 +23,8 @@ put-refused-requires c κs = search needs
 returns : tie.Need-returns
 returns c =
     let t = at-refused c in
-    said-refused _ _ _ _ (at-drawn (t .before) .layer-file .ensures) _ _ _ (t .if1 .taken) (c .put-refused .ensures .0) refl refl
+    said-refused _ _ _ _ (at-drawn (t .before) .layer-file .ensures) _ _ _ (t .if1 .taken)
+    (c .put-refused .ensures .0) refl refl
 
 put-count-requires : tie.Need-put-count-requires
 put-count-requires c κs = search needs
@@ -31,7 +32,8 @@ put-count-requires c κs = search needs
 returns-2 : tie.Need-returns-2
 returns-2 c =
     let e = at-done c in
-    said-done _ _ _ _ (at-drawn (e .before) .layer-file .ensures) _ _ _ (e .if1 .left) (c .put-count .ensures .0) refl refl
+    said-done _ _ _ _ (at-drawn (e .before) .layer-file .ensures) _ _ _ (e .if1 .left) (c .put-count .ensures .0)
+    refl refl
 
 pub draw-layer-spec : {M : Type 1} → statement M
 draw-layer-spec =

@@ -7,7 +7,8 @@ use lib.Seq.{length-take-le}
 use Rattle.picture.specs.Shapes.{gridIn}
 use Rattle.layers.specs.Says.{drawFault}
 use Rattle.layers.proofs.StepLaws.{solid-size}
-use Rattle.layers.proofs.Drawing.{draw-lines, Clear, clear, words-room, words-few, drawable, full-refused, full-done}
+use Rattle.layers.proofs.Drawing.{draw-lines, Clear, clear, words-room, words-few, drawable}
+use Rattle.layers.proofs.Drawing.{full-refused, full-done}
 use borrow.Author.Needs.{needs}
 use Rattle.layers.proofs.solid.draw_solid.Statement.{statement}
 use Rattle.layers.proofs.solid.draw_solid.Tie as tie
@@ -39,7 +40,8 @@ fault c =
     let a = at-start c .args in
     c .first-fault .ensures
     ∙ draw-lines true (a .tape .now) (gridIn (a .grid) true) (length (a .picture .now))
-    (at-opened c .open-tape .ensures .read .number) (at-grid c .grid-fault .ensures) (at-length c .length-fault .ensures)
+    (at-opened c .open-tape .ensures .read .number) (at-grid c .grid-fault .ensures)
+    (at-length c .length-fault .ensures)
 
 none : (c : tie.Else1)
     → (let a = at-start (c .before) .args in
@@ -77,7 +79,8 @@ refused-requires c κs = search needs
 returns : tie.Need-returns
 returns c =
     let f = c .before .before in
-    full-refused true _ _ _ (c .refused .ensures) (fault f) (c .before .if1 .taken) (at-opened f .open-tape .ensures .read .place)
+    full-refused true _ _ _ (c .refused .ensures) (fault f) (c .before .if1 .taken)
+    (at-opened f .open-tape .ensures .read .place)
 
 cast-n : tie.Need-cast-n
 cast-n c = search needs
@@ -105,7 +108,8 @@ returns-2 : tie.Need-returns-2
 returns-2 c =
     let d = at-drawn c in
     let e = at-clear (d .before) in
-    full-done true _ _ _ (c .done .ensures) (none e) (at-opened (e .before) .open-tape .ensures) (d .draw-solid .ensures)
+    full-done true _ _ _ (c .done .ensures) (none e) (at-opened (e .before) .open-tape .ensures)
+    (d .draw-solid .ensures)
 
 pub draw-solid-spec : {M : Type 1} → statement M
 draw-solid-spec =

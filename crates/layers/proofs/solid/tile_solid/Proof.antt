@@ -9,7 +9,8 @@ use Rattle.picture.specs.Shapes.{gridIn}
 use Rattle.layers.specs.Says.{tileFault}
 use Rattle.layers.proofs.StepLaws.{solid-size}
 use Rattle.layers.proofs.Drawing.{words-room, words-few}
-use Rattle.layers.proofs.Tiling.{tile-lines, TilesClear, tiles-clear, sound, solid-picture, tiles-refused, tiles-done}
+use Rattle.layers.proofs.Tiling.{tile-lines, TilesClear, tiles-clear, sound, solid-picture}
+use Rattle.layers.proofs.Tiling.{tiles-refused, tiles-done}
 use borrow.Author.Needs.{needs}
 use Rattle.layers.proofs.solid.tile_solid.Statement.{statement}
 use Rattle.layers.proofs.solid.tile_solid.Tie as tie
@@ -48,8 +49,8 @@ fault c =
     let a = at-start c .args in
     c .first-fault .ensures
     ∙ tile-lines true (a .tape .now) (gridIn (a .grid) true) (length (a .picture .now)) (length (a .work .now))
-    (at-opened c .open-tape .ensures .read .number) (at-grid c .grid-fault .ensures) (at-length c .length-fault .ensures)
-    (at-work c .work-fault .ensures)
+    (at-opened c .open-tape .ensures .read .number) (at-grid c .grid-fault .ensures)
+    (at-length c .length-fault .ensures) (at-work c .work-fault .ensures)
 
 none : (c : tie.Else1)
     → (let a = at-start (c .before) .args in
@@ -90,7 +91,8 @@ refused-requires c κs = search needs
 returns : tie.Need-returns
 returns c =
     let f = c .before .before in
-    tiles-refused true _ _ _ _ (c .refused .ensures) (fault f) (c .before .if1 .taken) (at-opened f .open-tape .ensures .read .place)
+    tiles-refused true _ _ _ _ (c .refused .ensures) (fault f) (c .before .if1 .taken)
+    (at-opened f .open-tape .ensures .read .place)
 
 cast-n : tie.Need-cast-n
 cast-n c = search needs

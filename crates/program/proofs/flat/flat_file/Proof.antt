@@ -7,7 +7,8 @@ use lib.ListN.{length}
 use lib.Seq.{length-take-le}
 use Rattle.picture.specs.Shapes.{gridIn}
 use Rattle.layers.proofs.StepLaws.{flat-size}
-use Rattle.program.proofs.Layers.{short-start, Tiled, tiled, sided, pixels, bitmap-length, layer-refused, layer-done}
+use Rattle.program.proofs.Layers.{short-start, Tiled, tiled, sided, pixels, bitmap-length}
+use Rattle.program.proofs.Layers.{layer-refused, layer-done}
 use borrow.Author.Needs.{needs}
 use Rattle.program.proofs.flat.flat_file.Statement.{statement}
 use Rattle.program.proofs.flat.flat_file.Tie as tie
@@ -42,11 +43,13 @@ drawn : (c : tie.After-tile-flat)
     → (let e = at-size c in
     let a = at-start e .args in
     Tiled false (a .tape .now) (a .grid) (e .picture-length .result) (at-picture e .zero-bytes .result)
-    (c .tile-flat .last .1 .1 .0) (at-work e .zero-bytes2 .result) (c .tile-flat .last .1 .1 .1 .0) (c .tile-flat .result))
+    (c .tile-flat .last .1 .1 .0) (at-work e .zero-bytes2 .result) (c .tile-flat .last .1 .1 .1 .0)
+    (c .tile-flat .result))
 drawn c =
     let e = at-size c in
     tiled (at-picture e .zero-bytes .result) (at-work e .zero-bytes2 .result) (e .picture-length .ensures)
-    (at-picture e .zero-bytes .ensures) (at-work e .zero-bytes2 .ensures) (c .tile-flat .kept .1 .1 .0) (c .tile-flat .ensures)
+    (at-picture e .zero-bytes .ensures) (at-work e .zero-bytes2 .ensures) (c .tile-flat .kept .1 .1 .0)
+    (c .tile-flat .ensures)
 
 -- The file fits the output.
 fits : (c : tie.After-file-length)
@@ -89,7 +92,8 @@ file-length-requires : tie.Need-file-length-requires
 file-length-requires c κs =
     let t = at-drawn (c .before) in
     let s = sided (drawn t) (c .if1 .left) in
-    (omega (arith, s .width-most), (omega (arith, s .height-most), omega (arith, at-size t .picture-length .ensures .most)))
+    let most = at-size t .picture-length .ensures .most in
+    (omega (arith, s .width-most), (omega (arith, s .height-most), omega (arith, most)))
 
 array-share-prefix-picture : tie.Need-array-share-prefix-picture
 array-share-prefix-picture c = drawn (at-drawn (c .before .before)) .back .room

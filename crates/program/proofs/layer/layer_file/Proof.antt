@@ -40,7 +40,8 @@ no-drawing-requires c κs = search needs
 
 returns : tie.Need-returns
 returns c =
-    no-record _ _ _ (told-false (c .before .before .record-ok .ensures) (c .before .if1 .taken)) (c .no-drawing .ensures)
+    let t = c .before in
+    no-record _ _ _ (told-false (t .before .record-ok .ensures) (t .if1 .taken)) (c .no-drawing .ensures)
 
 read-grid-requires : tie.Need-read-grid-requires
 read-grid-requires c κs = long-enough _ (ok c)

@@ -42,11 +42,13 @@ drawn : (c : tie.After-tile-solid)
     → (let e = at-size c in
     let a = at-start e .args in
     Tiled true (a .tape .now) (a .grid) (e .picture-length .result) (at-picture e .zero-heights .result)
-    (c .tile-solid .last .1 .1 .0) (at-work e .zero-bytes .result) (c .tile-solid .last .1 .1 .1 .0) (c .tile-solid .result))
+    (c .tile-solid .last .1 .1 .0) (at-work e .zero-bytes .result) (c .tile-solid .last .1 .1 .1 .0)
+    (c .tile-solid .result))
 drawn c =
     let e = at-size c in
     tiled (at-picture e .zero-heights .result) (at-work e .zero-bytes .result) (e .picture-length .ensures)
-    (at-picture e .zero-heights .ensures) (at-work e .zero-bytes .ensures) (c .tile-solid .kept .1 .1 .0) (c .tile-solid .ensures)
+    (at-picture e .zero-heights .ensures) (at-work e .zero-bytes .ensures) (c .tile-solid .kept .1 .1 .0)
+    (c .tile-solid .ensures)
 
 -- The file fits the output.
 fits : (c : tie.After-file-length)
