@@ -16,7 +16,7 @@ use Rattle.rules.proofs.Lines.{each-line}
 use Rattle.rules.proofs.Accepted.{Accepted, accepted-tape}
 use Rattle.tape.specs.Checks.{Answers}
 use Rattle.tape.specs.declared.check.Checked.{Checked}
-use Rattle.code.specs.Words.{tapeIn, Runnable}
+use Rattle.code.specs.Words.{tapeIn}
 use Rattle.code.specs.Runs.{Fit}
 use Rattle.code.specs.Unpacking.{Unpackable, Unpacked}
 use Rattle.code.proofs.WordTapes.{words-run, words-runnable, unpacked-tape, unpacked-accepted}

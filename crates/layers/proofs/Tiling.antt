@@ -1,13 +1,12 @@
 -- The calls that draw by tiles: refused, or done.
-use mathlib.Core.Path.{_≡_, refl, sym, ap, _∙_}
+use mathlib.Core.Path.{_≡_, refl, ap, _∙_}
 use mathlib.Core.Bool.{Bool, true, false}
-use mathlib.Core.List.{List, [], _∷_, _++_}
-use Prim.Native.Nat.{ℕ, suc, _≤_, _<_}
-use native.Mathlib.Omega.{arith}
-use lib.Dec.{eqb, ltb}
+use mathlib.Core.List.{List, [], _∷_}
+use Prim.Native.Nat.{ℕ, _≤_}
+use lib.Dec.{ltb}
 use lib.ListN.{length, take, replicate}
 use borrow.Author.Tests.{ne-eqb, eq-eqb, ltb-false}
-use Rattle.rules.specs.Values.{firstFault, when}
+use Rattle.rules.specs.Values.{firstFault}
 use Rattle.rules.specs.Tapes.{readTape}
 use Rattle.rules.specs.Drawings as D
 use Rattle.rules.specs.Pictures.{bitsOf, picture}

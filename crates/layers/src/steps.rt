@@ -7,7 +7,6 @@ use tape::check::CLAUSE_LIMIT;
 use tape::check::Checked;
 use tape::check::check_tape;
 ghost use mathlib.Core.Path.{_≡_};
-ghost use lib.ListN.{drop};
 ghost use Rattle.rules.specs.Values.{firstFault};
 ghost use Rattle.rules.specs.Pictures.{pictureSize};
 ghost use Rattle.picture.specs.Shapes.{gridIn};

@@ -1,5 +1,4 @@
 -- Compared with the length as it must be.
-use mathlib.Core.Path.{_≡_}
 use Rattle.layers.proofs.StepLaws.{length-wrong, length-right}
 use borrow.Author.Needs.{needs}
 use Rattle.layers.proofs.steps.length_fault.Statement.{statement}

@@ -1,6 +1,5 @@
 -- The picture's length, on any sizes of 32 bits.
-use mathlib.Core.Path.{_≡_}
-use Prim.Native.Nat.{_+_, _*_, _/_, _≤_}
+use Prim.Native.Nat.{_+_, _/_, _≤_}
 use native.Mathlib.Omega.{arith}
 use Rattle.layers.proofs.StepLaws.{area, solid-size, flat-size}
 use borrow.Author.Needs.{needs}

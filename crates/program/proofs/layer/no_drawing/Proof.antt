@@ -1,6 +1,5 @@
 -- The refusal, and no file.
 use mathlib.Core.Path.{ap}
-use Rattle.program.specs.declared.Drawn.{Drawn}
 use borrow.Author.Needs.{needs}
 use Rattle.program.proofs.layer.no_drawing.Statement.{statement}
 use Rattle.program.proofs.layer.no_drawing.Tie as tie
