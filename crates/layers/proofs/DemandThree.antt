@@ -16,7 +16,7 @@ use Rattle.picture.specs.declared.grid.Grid.{Grid}
 use Rattle.picture.proofs.Grids.{accepted}
 use Rattle.layers.specs.declared.Answer.{Answer}
 use Rattle.layers.specs.Says.{drawFault, tileFault, FullSays, TilesSay}
-use Rattle.layers.proofs.Drawing.{first-left, first-right, clear}
+use Rattle.layers.proofs.Tiling.{tiles-clear}
 
 -- A done drawing by tiles.
 pub record DrawnByTiles (isSolid : Bool) (s : List ℕ) (d : Grid) (o′ : List ℕ) (count : ℕ) : Type 0 where
@@ -31,7 +31,6 @@ pub record DrawnByTiles (isSolid : Bool) (s : List ℕ) (d : Grid) (o′ : List 
   pub part-solid : isSolid ≡ true → (r : D.Region) (u : D.State) → r .long ≡ 64
       → D.partOf (readTape s .tape) (gridIn d isSolid) r u ≤ D.solidBound * length (readTape s .tape .clauses)
 
--- No check refused it, in whichever order they stand.
 pub by-tiles : (t : Bool) (s : List ℕ) (d : Grid) (o o′ w w′ : List ℕ) (r : Answer) → TilesSay t s d o o′ w w′ r
     → r .number ≡ 0 → DrawnByTiles t s d o′ (r .count)
 by-tiles t s d o o′ w w′ r f e =
@@ -39,7 +38,7 @@ by-tiles t s d o o′ w w′ r f e =
     let x = tileFault t s g (length o) (length w) in
     let z : x ≡ 0 = sym (f .answer .number) ∙ e in
     let k = eq-eqb x 0 z in
-    let c = clear t s g (length o) (search (first-left, first-right)) in
+    let c = tiles-clear t s g (length o) (length w) z .drawing in
     let tiles = demand-3 s (c .read) in
     let kind = accepted d t (c .grid) .kind in
     record {

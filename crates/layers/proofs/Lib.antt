@@ -1,6 +1,6 @@
 -- What the proofs of the calls share.
 pub mod Answers
-pub mod Refusals
+pub mod StepLaws
 pub mod Drawing
 pub mod Tiling
 pub mod DemandTwo

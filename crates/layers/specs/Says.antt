@@ -1,37 +1,38 @@
 -- What the public calls promise: number, place, count and every lent byte, for all inputs.
 use mathlib.Core.Path.{_≡_}
-use mathlib.Core.Bool.{Bool, true, false, _&&_, not}
-use mathlib.Core.List.{List}
+use mathlib.Core.Bool.{Bool, not}
+use mathlib.Core.List.{List, [], _∷_, _++_}
 use lib.IntN.{ℤ}
 use Prim.Native.Nat.{ℕ, _*_}
-use lib.Dec.{eqb, ltb, leb}
+use lib.Dec.{eqb, ltb}
 use lib.ListN.{length, replicate}
-use Rattle.rules.specs.Values.{pick, firstOf, when}
-use Rattle.rules.specs.Tapes.{Got, clauseLimit, readTape, readList, tapeBytes, listOf, allBytes}
+use Rattle.rules.specs.Values.{pick, firstFault, when}
+use Rattle.rules.specs.Tapes.{Got, clauseLimit, placeOf, readTape, readList, tapeBytes, listOf, allBytes}
 use Rattle.rules.specs.Drawings as D
-use Rattle.rules.specs.Pictures.{stride, sidesOk, picture, pictureSize, bitmapFile, heightFile}
+use Rattle.rules.specs.Pictures.{stride, picture, pictureSize, bitmapFile, heightFile}
+use Rattle.tape_check.specs.Checks.{Answers}
+use Rattle.tape_check.specs.declared.Checked.{Checked}
 use Rattle.code.specs.Unpacking.{Unpacked}
 use Rattle.picture.specs.Shapes.{gridIn}
 use Rattle.picture.specs.declared.grid.Grid.{Grid}
+use Rattle.netpbm.specs.Files.{fileFault}
 use Rattle.layers.specs.declared.Answer.{Answer}
 use Rattle.layers.specs.declared.Listed.{Listed}
-use Rattle.layers.specs.declared.refusal.Refusal.{Refusal}
-use Rattle.layers.specs.declared.refusal.Prepared.{Prepared}
 
 -- "A call returns number, place, count. Place is the clause index, from 0, in the tape or list at fault for 5 to 9,
 -- otherwise 0. A number other than 0 has count 0".
 pub record Answered (n p c : ℕ) (r : Answer) : Type 0 where
   pub number : r .number ≡ n
-  pub place : r .place ≡ pick (leb 5 n && leb n 9) p 0
+  pub place : r .place ≡ placeOf n p
   pub count : r .count ≡ pick (eqb n 0) c 0
 
 -- "every lent byte unchanged. A 0 overwrites the whole picture or output".
 abbrev pub written : {A : Type 0} → ℕ → List A → List A → List A
 written f b o = pick (eqb f 0) b o
 
--- "Packing checks 4, 3, 5 to 9, 14; unpacking 1 to 9, 14".
+-- "Packing checks 4, 3, 5 to 9, 14; unpacking 1 to 9, 14": what reading refuses, then the output's length.
 abbrev pub copyFault : {A : Type 0} → Got → List A → List A → ℕ
-copyFault g b o = firstOf (g .number) (when (not (eqb (length o) (length b))) 14)
+copyFault g b o = firstFault (g .number ∷ (when (not (eqb (length o) (length b))) 14 ∷ []))
 
 pub record PackSays (n : ℕ) (zs : List ℤ) (o o′ : List ℕ) (r : Answer) : Type 0 where
   pub answer : let g = readList n zs in Answered (copyFault g (tapeBytes (g .tape)) o) (g .place) 0 r
@@ -41,15 +42,11 @@ pub record PackSays (n : ℕ) (zs : List ℤ) (o o′ : List ℕ) (r : Answer) :
 pub record UnpackSays (s : List ℕ) (o o′ : List ℤ) (r : Listed) : Type 0 where
   pub lent : allBytes s ≡ true
   pub answer : let g = readTape s in Answered (copyFault g (listOf (g .tape .clauses)) o) (g .place) 0 (r .answer)
-  pub slots : let g = readTape s in r .slots ≡ pick (eqb (copyFault g (listOf (g .tape .clauses)) o) 0) (g .tape .slots) 0
+  pub slots : let g = readTape s in
+      r .slots ≡ pick (eqb (copyFault g (listOf (g .tape .clauses)) o) 0) (g .tape .slots) 0
   pub out : let b = listOf (readTape s .tape .clauses) in o′ ≡ written (copyFault (readTape s) b o) b o
 
 -- "file making 10, 12, 14": n is the picture's length as it must be, b the file.
-abbrev pub fileFault : ℕ → ℕ → ℕ → List ℕ → List ℕ → List ℕ → ℕ
-fileFault w h n p b o =
-    firstOf (when (not (sidesOk w h)) 10)
-    (firstOf (when (not (eqb (length p) n)) 12) (when (not (eqb (length o) (length b))) 14))
-
 pub record FileSays (w h n : ℕ) (p b o o′ : List ℕ) (r : Answer) : Type 0 where
   pub answer : Answered (fileFault w h n p b o) 0 0 r
   pub out : o′ ≡ written (fileFault w h n p b o) b o
@@ -60,22 +57,32 @@ BitmapSays w h p o o′ r = FileSays w h (h * stride w) p (bitmapFile w h p) o o
 abbrev pub HeightsSay : ℕ → ℕ → List ℕ → List ℕ → List ℕ → Answer → Type 0
 HeightsSay w h p o o′ r = FileSays w h (w * h) p (heightFile w h p) o o′ r
 
--- "Drawing checks 1 to 4, then 5 to 9 clause by clause, then 10 to 13 (in full, 10 to 12)": n is the picture's length.
+-- The step that opens a tape: what it is read as, and where it is accepted its clauses as the first words.
+pub record Opens (s ws ws′ : List ℕ) (r : Checked) : Type 0 where
+  pub read : Answers r (readTape s)
+  pub words : readTape s .number ≡ 0 → Unpacked s ws ws′ (r .clauses)
+  pub room : readTape s .number ≡ 0 → length ws′ ≡ clauseLimit
+
+-- Lines 12 and 13: "picture buffer not of the exact length", n its length; "work buffer below 32,768 bytes".
+abbrev pub lengthFault : Bool → D.Grid → ℕ → ℕ
+lengthFault isSolid g n = when (not (eqb n (pictureSize isSolid g))) 12
+
+abbrev pub workFault : ℕ → ℕ
+workFault m = when (ltb m D.workLimit) 13
+
+-- "Drawing checks 1 to 4, then 5 to 9 clause by clause, then 10 to 13 (in full, 10 to 12)": n is the picture's length,
+-- m the work buffer's. Reading the tape has lines 1 to 9, the grid 10 and 11.
+abbrev pub drawLines : Bool → List ℕ → D.Grid → ℕ → List ℕ
+drawLines isSolid s g n = readTape s .number ∷ (D.gridFault isSolid g ∷ (lengthFault isSolid g n ∷ []))
+
+abbrev pub tileLines : Bool → List ℕ → D.Grid → ℕ → ℕ → List ℕ
+tileLines isSolid s g n m = drawLines isSolid s g n ++ (workFault m ∷ [])
+
 abbrev pub drawFault : Bool → List ℕ → D.Grid → ℕ → ℕ
-drawFault isSolid s g n =
-    firstOf (readTape s .number)
-    (firstOf (D.gridFault isSolid g) (when (not (eqb n (pictureSize isSolid g))) 12))
+drawFault isSolid s g n = firstFault (drawLines isSolid s g n)
 
-pub record Refused (isSolid : Bool) (s : List ℕ) (g : D.Grid) (n : ℕ) (r : Refusal) : Type 0 where
-  pub number : r .number ≡ drawFault isSolid s g n
-  pub place : r .place ≡ pick (leb 5 (drawFault isSolid s g n) && leb (drawFault isSolid s g n) 9) (readTape s .place) 0
-
--- The refusal of a drawing, and where there is none the tape's clauses as words.
-pub record Prepares (isSolid : Bool) (s : List ℕ) (g : D.Grid) (n : ℕ) (ws ws′ : List ℕ) (r : Prepared) : Type 0 where
-  pub number : r .number ≡ drawFault isSolid s g n
-  pub place : r .place ≡ pick (leb 5 (drawFault isSolid s g n) && leb (drawFault isSolid s g n) 9) (readTape s .place) 0
-  pub words : r .number ≡ 0 → Unpacked s ws ws′ (r .clauses)
-  pub room : r .number ≡ 0 → length ws′ ≡ clauseLimit
+abbrev pub tileFault : Bool → List ℕ → D.Grid → ℕ → ℕ → ℕ
+tileFault isSolid s g n m = firstFault (tileLines isSolid s g n m)
 
 -- The full drawing: the definition's picture and count.
 pub record FullSays (isSolid : Bool) (s : List ℕ) (d : Grid) (o o′ : List ℕ) (r : Answer) : Type 0 where
@@ -85,12 +92,11 @@ pub record FullSays (isSolid : Bool) (s : List ℕ) (d : Grid) (o o′ : List �
       o′ ≡ written (drawFault isSolid s g (length o)) (picture isSolid g (D.drawn (readTape s .tape) g)) o
 
 -- The drawing by tiles: the walk's picture and count, and the work buffer cleared.
-abbrev pub tileFault : Bool → List ℕ → D.Grid → ℕ → ℕ → ℕ
-tileFault isSolid s g n m = firstOf (drawFault isSolid s g n) (when (ltb m D.workLimit) 13)
-
 pub record TilesSay (isSolid : Bool) (s : List ℕ) (d : Grid) (o o′ w w′ : List ℕ) (r : Answer) : Type 0 where
   pub answer : let g = gridIn d isSolid in
-      Answered (tileFault isSolid s g (length o) (length w)) (readTape s .place) (D.walked (readTape s .tape) g .clauses) r
+      let n = tileFault isSolid s g (length o) (length w) in
+      Answered n (readTape s .place) (D.walked (readTape s .tape) g .clauses) r
   pub pixels : let g = gridIn d isSolid in
-      o′ ≡ written (tileFault isSolid s g (length o) (length w)) (picture isSolid g (D.walked (readTape s .tape) g .heights)) o
+      let n = tileFault isSolid s g (length o) (length w) in
+      o′ ≡ written n (picture isSolid g (D.walked (readTape s .tape) g .heights)) o
   pub work : w′ ≡ written (tileFault isSolid s (gridIn d isSolid) (length o) (length w)) (replicate (length w) 0) w

@@ -1,7 +1,7 @@
 // The public calls. Each checks what it is lent, in the scope paper's order, and then calls.
 mod flat;
-mod refusal;
 mod solid;
+mod steps;
 
 pub use flat::draw_flat;
 pub use flat::tile_flat;
@@ -9,6 +9,7 @@ use packing::pack;
 use packing::unpack;
 pub use solid::draw_solid;
 pub use solid::tile_solid;
+ghost use mathlib.Core.Path.{_≡_};
 ghost use Rattle.layers.specs.Says.{PackSays, UnpackSays, BitmapSays, HeightsSay};
 
 // The least length of a work buffer.
@@ -29,28 +30,41 @@ pub struct Listed {
     pub slots: u8,
 }
 
+// The answer of a call that counts nothing: a refused one, and any that draws no picture, with number 0 if it is done.
+pub fn refused(number: u8, place: u32) -> Answer
+    ensures { λ r. ⌜ r ≡ record { number = number; place = place; count = 0 } ⌝ }
+{
+    Answer {
+        number: number,
+        place: place,
+        count: 0,
+    }
+}
+
+// The answer of a drawing that is done.
+pub fn done(count: u64) -> Answer
+    ensures { λ r. ⌜ r ≡ record { number = 0; place = 0; count = count } ⌝ }
+{
+    Answer {
+        number: 0,
+        place: 0,
+        count: count,
+    }
+}
+
 pub fn pack_tape(slots: u32, list: &[i32], out: &mut [u8]) -> Answer
     ensures { λ r. ⌜ PackSays slots (now (list .entry)) (now (out .entry)) (now (out .exit)) r ⌝ }
 {
     let p = pack(slots, list, out);
-    Answer {
-        number: p.number,
-        place: p.place,
-        count: 0,
-    }
+    refused(p.number, p.place)
 }
 
 pub fn unpack_tape(tape: &[u8], out: &mut [i32]) -> Listed
     ensures { λ r. ⌜ UnpackSays (now (tape .entry)) (now (out .entry)) (now (out .exit)) r ⌝ }
 {
     let p = unpack(tape, out);
-    let answer = Answer {
-        number: p.number,
-        place: p.place,
-        count: 0,
-    };
     Listed {
-        answer: answer,
+        answer: refused(p.number, p.place),
         slots: p.slots,
     }
 }
@@ -58,19 +72,11 @@ pub fn unpack_tape(tape: &[u8], out: &mut [i32]) -> Listed
 pub fn write_bitmap(width: u32, height: u32, picture: &[u8], out: &mut [u8]) -> Answer
     ensures { λ r. ⌜ BitmapSays width height (now (picture .entry)) (now (out .entry)) (now (out .exit)) r ⌝ }
 {
-    Answer {
-        number: netpbm::file::write_bitmap(width, height, picture, out),
-        place: 0,
-        count: 0,
-    }
+    refused(netpbm::file::write_bitmap(width, height, picture, out), 0)
 }
 
 pub fn write_heights(width: u32, height: u32, picture: &[u16], out: &mut [u8]) -> Answer
     ensures { λ r. ⌜ HeightsSay width height (now (picture .entry)) (now (out .entry)) (now (out .exit)) r ⌝ }
 {
-    Answer {
-        number: netpbm::file::write_heights(width, height, picture, out),
-        place: 0,
-        count: 0,
-    }
+    refused(netpbm::file::write_heights(width, height, picture, out), 0)
 }

@@ -1,60 +1,48 @@
 // The solid drawing: in full, and by tiles.
 use crate::Answer;
-use crate::WORK_LIMIT;
-use crate::refusal::prepare;
+use crate::done;
+use crate::refused;
+use crate::steps::first_fault;
+use crate::steps::length_fault;
+use crate::steps::open_tape;
+use crate::steps::work_fault;
 use picture::bits::clear;
 use picture::grid::Grid;
+use picture::grid::grid_fault;
+use tape::CLAUSE_LIMIT;
 ghost use mathlib.Core.Bool.{true};
 ghost use Rattle.layers.specs.Says.{FullSays, TilesSay};
 
 pub fn draw_solid(tape: &[u8], grid: Grid, picture: &mut [u16]) -> Answer
     ensures { λ r. ⌜ FullSays true (now (tape .entry)) grid (now (picture .entry)) (now (picture .exit)) r ⌝ }
 {
-    let mut words = [0u64; 1024];
-    let ready = prepare(true, tape, grid, picture.len(), &mut words);
-    let number = ready.number;
-    let n = ready.clauses;
-    if number != 0 {
-        return Answer {
-            number: number,
-            place: ready.place,
-            count: 0,
-        };
+    let mut words = [0u64; CLAUSE_LIMIT];
+    let opened = open_tape(tape, &mut words);
+    let grid_line = grid_fault(true, grid);
+    let length_line = length_fault(true, grid, picture.len());
+    let fault = first_fault(&[opened.number, grid_line, length_line]);
+    if fault != 0 {
+        return refused(fault, opened.place);
     }
-    let count = full_drawing::solid::draw_solid(&words[..n], grid, picture);
-    Answer {
-        number: 0,
-        place: 0,
-        count: count,
-    }
+    let n = opened.clauses as usize;
+    done(full_drawing::solid::draw_solid(&words[..n], grid, picture))
 }
 
 pub fn tile_solid(tape: &[u8], grid: Grid, picture: &mut [u16], work: &mut [u8]) -> Answer
-    ensures { λ r. ⌜ TilesSay true (now (tape .entry)) grid (now (picture .entry)) (now (picture .exit)) (now (work .entry)) (now (work .exit)) r ⌝ }
+    ensures { λ r. ⌜ TilesSay true (now (tape .entry)) grid (now (picture .entry)) (now (picture .exit))
+        (now (work .entry)) (now (work .exit)) r ⌝ }
 {
-    let mut words = [0u64; 1024];
-    let ready = prepare(true, tape, grid, picture.len(), &mut words);
-    let number = ready.number;
-    let n = ready.clauses;
-    if number != 0 {
-        return Answer {
-            number: number,
-            place: ready.place,
-            count: 0,
-        };
+    let mut words = [0u64; CLAUSE_LIMIT];
+    let opened = open_tape(tape, &mut words);
+    let grid_line = grid_fault(true, grid);
+    let length_line = length_fault(true, grid, picture.len());
+    let work_line = work_fault(work.len());
+    let fault = first_fault(&[opened.number, grid_line, length_line, work_line]);
+    if fault != 0 {
+        return refused(fault, opened.place);
     }
-    if work.len() < WORK_LIMIT {
-        return Answer {
-            number: 13,
-            place: 0,
-            count: 0,
-        };
-    }
+    let n = opened.clauses as usize;
     let count = solid_tiles::tiles::tile_solid(&words[..n], grid, picture, work);
     clear(work);
-    Answer {
-        number: 0,
-        place: 0,
-        count: count,
-    }
+    done(count)
 }

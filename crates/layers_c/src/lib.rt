@@ -1,4 +1,5 @@
-// The public calls for C and Rust: a slice is a pointer and then a length. Each promises what the call that it wraps does.
+// The public calls for C and Rust: a slice is a pointer and then a length. Each promises what the call that it wraps
+// does.
 use layers::Answer;
 use layers::Listed;
 use picture::grid::Grid;
@@ -40,7 +41,8 @@ pub extern "C" fn layers_tile_flat(
     picture: &mut [u8],
     work: &mut [u8],
 ) -> Answer
-    ensures { λ r. ⌜ TilesSay false (now (tape .entry)) grid (now (picture .entry)) (now (picture .exit)) (now (work .entry)) (now (work .exit)) r ⌝ }
+    ensures { λ r. ⌜ TilesSay false (now (tape .entry)) grid (now (picture .entry)) (now (picture .exit))
+        (now (work .entry)) (now (work .exit)) r ⌝ }
 {
     layers::tile_flat(tape, grid, picture, work)
 }
@@ -52,7 +54,8 @@ pub extern "C" fn layers_tile_solid(
     picture: &mut [u16],
     work: &mut [u8],
 ) -> Answer
-    ensures { λ r. ⌜ TilesSay true (now (tape .entry)) grid (now (picture .entry)) (now (picture .exit)) (now (work .entry)) (now (work .exit)) r ⌝ }
+    ensures { λ r. ⌜ TilesSay true (now (tape .entry)) grid (now (picture .entry)) (now (picture .exit))
+        (now (work .entry)) (now (work .exit)) r ⌝ }
 {
     layers::tile_solid(tape, grid, picture, work)
 }

@@ -29,12 +29,9 @@ pub fn flat_file(tape: &[u8], grid: Grid, out: &mut [u8]) -> Drawn
     let mut work = zero_bytes();
     let size = picture_length(grid);
     let answer = tile_flat(tape, grid, &mut picture[..size], &mut work);
-    let number = answer.number;
-    if number != 0 {
+    if answer.number != 0 {
         return Drawn {
-            number: number,
-            place: answer.place,
-            count: 0,
+            answer: answer,
             length: 0,
         };
     }
@@ -46,9 +43,7 @@ pub fn flat_file(tape: &[u8], grid: Grid, out: &mut [u8]) -> Drawn
         &mut out[..length],
     );
     Drawn {
-        number: 0,
-        place: 0,
-        count: answer.count,
+        answer: answer,
         length: length,
     }
 }

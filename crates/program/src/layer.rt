@@ -6,16 +6,16 @@ use crate::record::read_grid;
 use crate::record::record_ok;
 use crate::record::too_large;
 use crate::solid::solid_file;
+use layers::refused;
 ghost use mathlib.Core.Path.{_≡_};
 ghost use Rattle.program.specs.Says.{outputLength, InputSays};
 
-fn refused(number: u8) -> Drawn
-    ensures { λ r. ⌜ r ≡ record { number = number; place = 0; count = 0; length = 0 } ⌝ }
+// An input that is refused for its record.
+fn no_drawing(number: u8) -> Drawn
+    ensures { λ r. ⌜ r ≡ record { answer = record { number = number; place = 0; count = 0 }; length = 0 } ⌝ }
 {
     Drawn {
-        number: number,
-        place: 0,
-        count: 0,
+        answer: refused(number, 0),
         length: 0,
     }
 }
@@ -25,11 +25,11 @@ pub fn layer_file(input: &[u8], out: &mut [u8]) -> Drawn
     ensures { λ r. ⌜ InputSays (now (input .entry)) (now (out .entry)) (now (out .exit)) r ⌝ }
 {
     if !record_ok(input) {
-        return refused(15);
+        return no_drawing(15);
     }
     let grid = read_grid(input);
     if too_large(grid) {
-        return refused(16);
+        return no_drawing(16);
     }
     let tape = &input[RECORD_LENGTH..];
     if grid.depth < 1 {

@@ -1,6 +1,7 @@
 -- What is proved of the definitions.
 pub mod Figures
 pub mod Tests
+pub mod Lines
 pub mod Words
 pub mod Order
 pub mod Root

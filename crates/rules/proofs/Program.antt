@@ -14,8 +14,8 @@ use Rattle.rules.specs.Values.{pick, smaller, larger, sum, difference, p
 use Rattle.rules.specs.Tapes.{clauseLimit, Got, bad, word, two, four, runFrom, valueAt, material, rangeFrom, rangeOver, choicesFrom, reads, isIn, without, onClause, shortFrom, lastOut, shortened, badSlot, badUnused, badConstant, badRead, clauseFault, faultFrom, readClauses, countsOk, signed4, rawIn, rawsFrom, headOk, readTape}
 use Rattle.rules.specs.Drawings.{Grid, solid, drawn, sampleAt, gridFault, lesser, boxOf, raiseRow, raiseRows, filled, rowHigh, rowsHigh, hidden, alongX, alongY, alongZ, children, fold, onSample, visit, sides, walked}
 use Rattle.rules.specs.Pictures.{byteOf, rowBytes, bitsOf, picture, digitsFrom, head, cleanRow, cleanRows, bitmapFile, highFirst, heightFile}
-use Rattle.rules.specs.Program.{recordLength, gridRecord, tapeAfter, longestInput, inputLimit, recordOk, tooLarge, programFault, programPlace, fileOf, Output, programOf}
-use Rattle.rules.proofs.Tests.{tests-after, first-zero}
+use Rattle.rules.specs.Program.{recordLength, gridRecord, tapeAfter, longestInput, inputLimit, recordOk, tooLarge, programLines, programFault, programPlace, fileOf, Output, programOf}
+use Rattle.rules.proofs.Lines.{each-line}
 use Rattle.rules.proofs.Reading.{Counts, counts-hold}
 use Rattle.rules.proofs.Tiles.{demand-3}
 use Rattle.rules.proofs.Example.{gridOf, threeBytes, threeFlat, threeSolid}
@@ -177,7 +177,6 @@ unfolding programOf programFault
 same-file s e =
     let g = gridRecord s in
     let k = drew s e in
-    let f = tests-after (tooLarge g) 15 _ (tests-after (not (recordOk s)) 14 _ k) in
-    let z = first-zero (readTape (tapeAfter s) .number) (gridFault (solid g) g) f in
-    let same = demand-3 (tapeAfter s) (z .0) .same-picture g (solid g) refl (z .1) in
+    let z = each-line (programLines s) k in
+    let same = demand-3 (tapeAfter s) (z 2) .same-picture g (solid g) refl (z 3) in
     rw (k, programOf) (ap (fileOf g) same)

@@ -4,7 +4,7 @@ use mathlib.Core.List.{List, [], _∷_, _++_}
 use Prim.Native.Nat.{ℕ, suc, _+_, _*_}
 use lib.Dec.{eqb, ltb, leb}
 use lib.ListN.{length, getD, drop}
-use Rattle.rules.specs.Values.{pick, firstOf, when}
+use Rattle.rules.specs.Values.{pick, firstFault, when}
 use Rattle.rules.specs.Tapes.{clauseLimit, placeOf, readTape, word, signed4}
 use Rattle.rules.specs.Drawings.{Grid, solid, gridFault, walked}
 use Rattle.rules.specs.Pictures.{digitsFrom, picture, bitmapFile, heightFile}
@@ -50,11 +50,14 @@ unfoldable pub tooLarge : Grid → Bool
 tooLarge g = solid g && (ltb solidLimit (g .width) || ltb solidLimit (g .height))
 
 -- "The program checks 15, 16, then as drawing." Its own buffers are as long as 12 and 13 ask for, so these never come.
-unfoldable pub programFault : List ℕ → ℕ
-programFault s =
+abbrev pub programLines : List ℕ → List ℕ
+programLines s =
     let g = gridRecord s in
-    firstOf (when (not (recordOk s)) 15)
-    (firstOf (when (tooLarge g) 16) (firstOf (readTape (tapeAfter s) .number) (gridFault (solid g) g)))
+    when (not (recordOk s)) 15
+    ∷ (when (tooLarge g) 16 ∷ (readTape (tapeAfter s) .number ∷ (gridFault (solid g) g ∷ [])))
+
+unfoldable pub programFault : List ℕ → ℕ
+programFault s = firstFault (programLines s)
 
 unfoldable pub programPlace : List ℕ → ℕ
 programPlace s = placeOf (programFault s) (readTape (tapeAfter s) .place)

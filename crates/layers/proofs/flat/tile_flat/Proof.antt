@@ -5,29 +5,97 @@ use Prim.Native.Nat.{_≤_}
 use native.Mathlib.Omega.{arith}
 use lib.ListN.{length, replicate}
 use lib.Seq.{length-take-le}
-use Rattle.walk.proofs.LookLaws.{sound-length}
-use Rattle.layers.proofs.Refusals.{flat-size}
-use Rattle.layers.proofs.Drawing.{ready, words-room}
-use Rattle.layers.proofs.Tiling.{sound, tiles-refused, tiles-short, tiles-done}
+use Rattle.picture.specs.Shapes.{gridIn}
+use Rattle.layers.specs.Says.{tileFault}
+use Rattle.layers.proofs.StepLaws.{flat-size}
+use Rattle.layers.proofs.Drawing.{words-room, words-few}
+use Rattle.layers.proofs.Tiling.{tile-lines, TilesClear, tiles-clear, sound}
+use Rattle.layers.proofs.Tiling.{tiles-refused, tiles-done}
 use borrow.Author.Needs.{needs}
 use Rattle.layers.proofs.flat.tile_flat.Statement.{statement}
 use Rattle.layers.proofs.flat.tile_flat.Tie as tie
 
--- The words of the tape are among those there are.
-fits : (c : tie.Else1) → (let p = c .before .prepare in p .result .clauses ≤ length (p .last .1 .1 .1 .1 .0))
-fits c = let p = c .before .prepare in words-room (p .ensures) (c .if1 .left)
+-- The lines, from the last to the first, and the start.
+abbrev at-work : tie.After-first-fault → tie.After-work-fault
+at-work c = c .before .before
 
-prepare-requires : tie.Need-prepare-requires
-prepare-requires c κs = search needs
+abbrev at-length : tie.After-first-fault → tie.After-length-fault
+at-length c = at-work c .before
+
+abbrev at-grid : tie.After-first-fault → tie.After-grid-fault
+at-grid c = at-length c .before
+
+abbrev at-opened : tie.After-first-fault → tie.After-open-tape
+at-opened c = at-grid c .before
+
+abbrev at-start : tie.After-first-fault → tie.Start
+at-start c = at-opened c .before .before .before .before .before
+
+-- No line holds; the drawing; and the work buffer cleared.
+abbrev at-clear : tie.After-tile-flat-arg2 → tie.Else1
+at-clear c = c .before .before .before .before
+
+abbrev at-drawn : tie.After-clear → tie.After-tile-flat
+at-drawn c = c .before .before .before .before .before .before
+
+abbrev at-cleared : tie.After-done → tie.After-clear
+at-cleared c = c .before .before .before
+
+fault : (c : tie.After-first-fault)
+    → (let a = at-start c .args in
+    c .first-fault .result
+    ≡ tileFault false (a .tape .now) (gridIn (a .grid) false) (length (a .picture .now)) (length (a .work .now)))
+fault c =
+    let a = at-start c .args in
+    c .first-fault .ensures
+    ∙ tile-lines false (a .tape .now) (gridIn (a .grid) false) (length (a .picture .now)) (length (a .work .now))
+    (at-opened c .open-tape .ensures .read .number) (at-grid c .grid-fault .ensures)
+    (at-length c .length-fault .ensures) (at-work c .work-fault .ensures)
+
+none : (c : tie.Else1)
+    → (let a = at-start (c .before) .args in
+    tileFault false (a .tape .now) (gridIn (a .grid) false) (length (a .picture .now)) (length (a .work .now)) ≡ 0)
+none c = sym (fault (c .before)) ∙ c .if1 .left
+
+checked : (c : tie.Else1)
+    → (let a = at-start (c .before) .args in
+    TilesClear false (a .tape .now) (gridIn (a .grid) false) (length (a .picture .now)) (length (a .work .now)))
+checked c = tiles-clear _ _ _ _ _ (none c)
+
+-- The words of the tape are among those there are.
+fits : (c : tie.Else1)
+    → (let p = at-opened (c .before) .open-tape in p .result .clauses ≤ length (p .last .1 .0))
+fits c = words-room (at-opened (c .before) .open-tape .ensures) (checked c .drawing .read)
+
+open-tape-requires : tie.Need-open-tape-requires
+open-tape-requires c κs = search needs
+
+grid-fault-requires : tie.Need-grid-fault-requires
+grid-fault-requires c κs = search needs
+
+length-fault-requires : tie.Need-length-fault-requires
+length-fault-requires c κs = search needs
+
+work-fault-requires : tie.Need-work-fault-requires
+work-fault-requires c κs = search needs
+
+slice-aggregate-first-fault : tie.Need-slice-aggregate-first-fault
+slice-aggregate-first-fault c = search needs
+
+first-fault-requires : tie.Need-first-fault-requires
+first-fault-requires c κs = search needs
+
+refused-requires : tie.Need-refused-requires
+refused-requires c κs = search needs
 
 returns : tie.Need-returns
 returns c =
-    tiles-refused false _ _ _ _ _ _ _ _ (c .before .prepare .ensures) (c .if1 .taken) refl refl refl
+    let f = c .before .before in
+    tiles-refused false _ _ _ _ (c .refused .ensures) (fault f) (c .before .if1 .taken)
+    (at-opened f .open-tape .ensures .read .place)
 
-returns-2 : tie.Need-returns-2
-returns-2 c =
-    let e = c .before in
-    tiles-short false _ _ _ _ _ _ _ _ (e .before .prepare .ensures) (e .if1 .left) (omega (arith, c .if2 .taken)) refl refl refl
+cast-n : tie.Need-cast-n
+cast-n c = search needs
 
 array-share-prefix-words : tie.Need-array-share-prefix-words
 array-share-prefix-words c = fits (c .before)
@@ -37,15 +105,21 @@ slice-aggregate-tile-flat c = sym (length-take-le _ _ (fits (c .before .before))
 
 tile-flat-requires : tie.Need-tile-flat-requires
 tile-flat-requires c κs =
-    let b = c .before .before .before in
-    let e = b .before in
-    let f = e .before .prepare .ensures in
-    let k = ready f (e .if1 .left) in
-    let w = sound f (e .if1 .left) in
-    (w, (record { fault = k .grid; size = k .size ∙ sym (flat-size false _ refl) }, omega (arith, b .if2 .left, sound-length w)))
+    let e = at-clear c in
+    let o = at-opened (e .before) .open-tape .ensures in
+    let k = checked e .drawing in (
+      sound o (k .read),
+      (
+        record { fault = k .grid; size = k .size ∙ sym (flat-size false _ refl) },
+        omega (arith, checked e .work, words-few o (k .read)),
+      ),
+    )
 
 clear-requires : tie.Need-clear-requires
 clear-requires c κs = search needs
+
+done-requires : tie.Need-done-requires
+done-requires c κs = search needs
 
 same-length : tie.Need-same-length
 same-length c = search needs
@@ -53,26 +127,34 @@ same-length c = search needs
 same-length-2 : tie.Need-same-length-2
 same-length-2 c = search needs
 
-returns-3 : tie.Need-returns-3
-returns-3 c =
-    let b = c .before .before .before .before .before .before .before .before .before .before .before .before in
-    let e = b .before in
-    let u = c .before .before .before .before .before .before .before .before .tile-flat in
-    let v = u .ensures in
-    tiles-done false _ _ _ _ _ _ _ _ _ _ (e .before .prepare .ensures) (e .if1 .left) (b .if2 .left)
-    (record { pixels = v .pixels; count = v .count }) (c .before .before .clear .ensures ∙ ap (λ m. replicate m 0) (u .kept .1 .1 .1 .0)) refl refl
+returns-2 : tie.Need-returns-2
+returns-2 c =
+    let k = at-cleared c in
+    let d = at-drawn k .tile-flat in
+    let e = at-clear (at-drawn k .before) in
+    let v = d .ensures in
+    tiles-done false _ _ _ _ (c .done .ensures) (none e) (at-opened (e .before) .open-tape .ensures)
+    (record { pixels = v .pixels; count = v .count })
+    (k .clear .ensures ∙ ap (λ m. replicate m 0) (d .kept .1 .1 .1 .0))
 
 pub tile-flat-spec : {M : Type 1} → statement M
 tile-flat-spec =
     tie.close
     (tie.spec
-    prepare-requires
+    open-tape-requires
+    grid-fault-requires
+    length-fault-requires
+    work-fault-requires
+    slice-aggregate-first-fault
+    first-fault-requires
+    refused-requires
     returns
-    returns-2
+    cast-n
     array-share-prefix-words
     slice-aggregate-tile-flat
     tile-flat-requires
     clear-requires
+    done-requires
     same-length
     same-length-2
-    returns-3)
+    returns-2)

@@ -33,20 +33,20 @@ constant-at-requires-6 c κs = search needs
 
 returns : tie.Need-returns
 returns c =
-    let x = c .before .before .before .before .before .constant-at in
-    let y = c .before .before .before .before .constant-at2 in
-    let z = c .before .before .before .constant-at3 in
-    let u = c .before .before .constant-at4 in
-    let v = c .before .constant-at5 in
-    let t = c .constant-at6 in
-    let d = c .before .before .before .before .before .before in
-    fields-read _ (d .before .before .word-at .ensures .0) (d .before .word-at2 .ensures .0) (d .word-at3 .ensures .0)
-    (record { fits = x .ok; value = x .ensures })
-    (record { fits = y .ok; value = y .ensures })
-    (record { fits = z .ok; value = z .ensures })
-    (record { fits = u .ok; value = u .ensures })
-    (record { fits = v .ok; value = v .ensures })
-    (record { fits = t .ok; value = t .ensures })
+    let v = c .before in
+    let u = v .before in
+    let z = u .before in
+    let y = z .before in
+    let x = y .before in
+    let d = x .before in
+    let h = d .before in
+    fields-read _ (h .before .word-at .ensures .0) (h .word-at2 .ensures .0) (d .word-at3 .ensures .0)
+    (record { fits = x .constant-at .ok; value = x .constant-at .ensures })
+    (record { fits = y .constant-at2 .ok; value = y .constant-at2 .ensures })
+    (record { fits = z .constant-at3 .ok; value = z .constant-at3 .ensures })
+    (record { fits = u .constant-at4 .ok; value = u .constant-at4 .ensures })
+    (record { fits = v .constant-at5 .ok; value = v .constant-at5 .ensures })
+    (record { fits = c .constant-at6 .ok; value = c .constant-at6 .ensures })
 
 pub read-grid-spec : {M : Type 1} → statement M
 read-grid-spec =

@@ -6,38 +6,60 @@ use native.Mathlib.Omega.{arith}
 use lib.ListN.{length}
 use lib.Seq.{length-take-le}
 use Rattle.picture.specs.Shapes.{gridIn}
-use Rattle.layers.proofs.Refusals.{solid-size}
+use Rattle.layers.proofs.StepLaws.{solid-size}
 use Rattle.program.proofs.Layers.{short-start, Tiled, tiled, sided, heights-length, layer-refused, layer-done}
 use borrow.Author.Needs.{needs}
 use Rattle.program.proofs.solid.solid_file.Statement.{statement}
 use Rattle.program.proofs.solid.solid_file.Tie as tie
 
+-- The start, the two buffers, the picture's length, the drawing, the file's length and the file.
+abbrev at-picture : tie.After-picture-length → tie.After-zero-heights
+at-picture c = c .before .before
+
+abbrev at-work : tie.After-picture-length → tie.After-zero-bytes
+at-work c = c .before
+
+abbrev at-start : tie.After-picture-length → tie.Start
+at-start c = at-picture c .before .before .before
+
+abbrev at-size : tie.After-tile-solid → tie.After-picture-length
+at-size c = c .before .before .before
+
+abbrev at-drawn : tie.After-struct-known → tie.After-tile-solid
+at-drawn c = c .before .before .before
+
+abbrev at-length : tie.After-write-heights → tie.After-file-length
+at-length c = c .before .before .before
+
+abbrev at-file : tie.After-slice-known2 → tie.After-write-heights
+at-file c = c .before .before
+
 -- The picture has room for the part that is lent.
-room : (c : tie.After-picture-length) → c .picture-length .result ≤ length (c .before .before .zero-heights .result)
-room c = omega (arith, c .picture-length .ensures .most, c .before .before .zero-heights .ensures)
+room : (c : tie.After-picture-length) → c .picture-length .result ≤ length (at-picture c .zero-heights .result)
+room c = omega (arith, c .picture-length .ensures .most, at-picture c .zero-heights .ensures)
 
 drawn : (c : tie.After-tile-solid)
-    → (let e = c .before .before .before in
-    let a = e .before .before .before .before .before .args in
-    Tiled true (a .tape .now) (a .grid) (e .picture-length .result) (e .before .before .zero-heights .result) (c .tile-solid .last .1 .1 .0)
-    (e .before .zero-bytes .result) (c .tile-solid .last .1 .1 .1 .0) (c .tile-solid .result))
+    → (let e = at-size c in
+    let a = at-start e .args in
+    Tiled true (a .tape .now) (a .grid) (e .picture-length .result) (at-picture e .zero-heights .result)
+    (c .tile-solid .last .1 .1 .0) (at-work e .zero-bytes .result) (c .tile-solid .last .1 .1 .1 .0)
+    (c .tile-solid .result))
 drawn c =
-    let e = c .before .before .before in
-    tiled (e .before .before .zero-heights .result) (e .before .zero-bytes .result) (e .picture-length .ensures) (e .before .before .zero-heights .ensures)
-    (e .before .zero-bytes .ensures) (c .tile-solid .kept .1 .1 .0) (c .tile-solid .ensures)
+    let e = at-size c in
+    tiled (at-picture e .zero-heights .result) (at-work e .zero-bytes .result) (e .picture-length .ensures)
+    (at-picture e .zero-heights .ensures) (at-work e .zero-bytes .ensures) (c .tile-solid .kept .1 .1 .0)
+    (c .tile-solid .ensures)
 
 -- The file fits the output.
 fits : (c : tie.After-file-length)
-    → (let a = c .before .before .before .before .before .before .before .before .before .before .before .before .args in
-    c .file-length .result ≤ length (a .out .now))
+    → c .file-length .result ≤ length (at-start (at-size (at-drawn (c .before .before))) .args .out .now)
 fits c =
-    let t = c .before .before .before .before in
-    let e = t .before .before .before in
+    let t = at-drawn (c .before .before) in
     omega (
       arith,
       c .file-length .ensures 53,
-      e .picture-length .ensures .most,
-      e .before .before .before .before .before .pre .1 .1,
+      at-size t .picture-length .ensures .most,
+      at-start (at-size t) .pre .1 .1,
       short-start 53 (sided (drawn t) (c .before .if1 .left)),
     )
 
@@ -63,8 +85,7 @@ tile-solid-requires : tie.Need-tile-solid-requires
 tile-solid-requires c κs = search needs
 
 returns : tie.Need-returns
-returns c =
-    layer-refused (drawn (c .before .before .before)) _ _ (c .if1 .taken) refl refl refl refl
+returns c = layer-refused (drawn (at-drawn (c .before))) _ _ (c .if1 .taken) refl refl
 
 mul-file-length : tie.Need-mul-file-length
 mul-file-length c = search needs
@@ -76,10 +97,10 @@ file-length-requires : tie.Need-file-length-requires
 file-length-requires c κs = search needs
 
 array-share-prefix-picture : tie.Need-array-share-prefix-picture
-array-share-prefix-picture c = drawn (c .before .before .before .before) .back .room
+array-share-prefix-picture c = drawn (at-drawn (c .before .before)) .back .room
 
 slice-aggregate-write-heights : tie.Need-slice-aggregate-write-heights
-slice-aggregate-write-heights c = sym (drawn (c .before .before .before .before .before) .back .size)
+slice-aggregate-write-heights c = sym (drawn (at-drawn (c .before .before .before)) .back .size)
 
 slice-relend-prefix-write-heights : tie.Need-slice-relend-prefix-write-heights
 slice-relend-prefix-write-heights c = fits (c .before)
@@ -95,14 +116,15 @@ same-length c = search needs
 
 returns-2 : tie.Need-returns-2
 returns-2 c =
-    let w = c .before .before in
-    let l = w .before .before .before in
-    let e = l .before in
-    let d = drawn (e .before .before .before) in
-    let g = e .before .before .before .before .before .before .before .before .before .before .before .args .grid in
+    let w = at-file c in
+    let l = at-length w in
+    let t = at-drawn (l .before .before) in
+    let d = drawn t in
+    let e = l .before .if1 .left in
+    let g = at-start (at-size t) .args .grid in
     let k = solid-size true (gridIn g true) refl in
-    layer-done d _ _ _ _ _ (e .if1 .left) (w .write-heights .ensures) k (fits l)
-    (heights-length g _ _ _ (d .back .size) (l .file-length .ensures 53)) refl refl refl
+    layer-done d _ _ _ _ _ e (w .write-heights .ensures) k (fits l)
+    (heights-length g _ _ _ (d .back .size) (l .file-length .ensures 53)) refl
 
 pub solid-file-spec : {M : Type 1} → statement M
 solid-file-spec =

@@ -1,0 +1,57 @@
+-- The steps of a call: a search through its lines, and the length of a picture.
+use mathlib.Core.Path.{_≡_, sym, ap, _∙_}
+use mathlib.Core.Bool.{Bool, true, false}
+use mathlib.Core.List.{List}
+use Prim.Native.Nat.{ℕ, _+_, _*_, _≤_, _<_}
+use native.Mathlib.Nat.{mul-le-mul}
+use native.Mathlib.Numerals.{add-one}
+use lib.ListN.{length, getD, drop}
+use lib.Seq.{drop-cons, drop-length}
+use borrow.Author.Tests.{eq-eqb, ne-eqb, lt-ltb, le-ltb}
+use Rattle.rules.specs.Values.{firstOf, firstFault}
+use Rattle.rules.specs.Drawings as D
+use Rattle.rules.specs.Pictures.{stride, pictureSize}
+use Rattle.rules.proofs.Lines.{first-here}
+use Rattle.layers.specs.Says.{lengthFault, workFault}
+
+-- The lines from the i-th on: the first of these is the first of all.
+pub record From (lines : List ℕ) (i : ℕ) : Type 0 where
+  pub rest : firstFault lines ≡ firstFault (drop i lines)
+
+module _ (lines : List ℕ) (i : ℕ) (f : From lines i) where
+  here : i < length lines → firstFault lines ≡ firstOf (getD lines i 0) (firstFault (drop (i + 1) lines))
+  here h = f .rest ∙ rw (add-one, drop-cons lines i 0)
+
+  pub found : i < length lines → (getD lines i 0 ≡ 0 → ⊥) → getD lines i 0 ≡ firstFault lines
+  found h k = sym (here h ∙ first-here (getD lines i 0) _ k)
+
+  pub next : i < length lines → getD lines i 0 ≡ 0 → From lines (i + 1)
+  next h e = record { rest = here h ∙ ap (λ n. firstOf n (firstFault (drop (i + 1) lines))) e }
+
+  pub none : i ≡ length lines → 0 ≡ firstFault lines
+  none e = sym (f .rest ∙ rw (e, drop-length))
+
+-- Lines 12 and 13.
+pub length-wrong : (t : Bool) (g : D.Grid) (n m : ℕ) → (n ≡ m → ⊥) → m ≡ pictureSize t g → 12 ≡ lengthFault t g n
+length-wrong t g n m h e = rw (ne-eqb n (pictureSize t g) (λ z. h (z ∙ sym e)))
+
+pub length-right : (t : Bool) (g : D.Grid) (n m : ℕ) → n ≡ m → m ≡ pictureSize t g → 0 ≡ lengthFault t g n
+length-right t g n m h e = rw (eq-eqb n (pictureSize t g) (h ∙ e))
+
+pub work-short : (m : ℕ) → m < D.workLimit → 13 ≡ workFault m
+work-short m h = rw (lt-ltb m D.workLimit h)
+
+pub work-enough : (m : ℕ) → D.workLimit ≤ m → 0 ≡ workFault m
+work-enough m h = rw (le-ltb m D.workLimit h)
+
+-- The length of a picture: no sizes of 32 bits go past 64 bits.
+pub area : (a b : ℕ) → a ≤ 4294967295 → b ≤ 4294967295 → a * b ≤ 18446744065119617025
+area a b h k = mul-le-mul h k
+
+pub solid-size : (t : Bool) (g : D.Grid) → t ≡ true → g .width * g .height ≡ pictureSize t g
+unfolding pictureSize
+solid-size t g e = rw e
+
+pub flat-size : (t : Bool) (g : D.Grid) → t ≡ false → g .height * stride (g .width) ≡ pictureSize t g
+unfolding pictureSize
+flat-size t g e = rw e
