@@ -27,13 +27,13 @@ pub fn fill(grid: Grid, c: Cell, picture: &mut [u16])
 {
     let rows = (c.yend - c.y) as usize;
     let from = (c.y * grid.width + c.x) as usize;
-    let count = (c.xend - c.x) as usize;
+    let wide = (c.xend - c.x) as usize;
     raise_rows(
         picture,
         rows,
         grid.width as usize,
         from,
-        count,
+        wide,
         c.zend as u16,
     );
 }

@@ -29,11 +29,11 @@ add-from c = let s = start (c .before) in omega (arith, cell-index _ _ (s .pre .
 cast-from : tie.Need-cast-from
 cast-from c = let s = start (c .before) in omega (arith, cell-index _ _ (s .pre .1) (s .pre .0 .fault))
 
-sub-count : tie.Need-sub-count
-sub-count c = search needs
+sub-wide : tie.Need-sub-wide
+sub-wide c = search needs
 
-cast-count : tie.Need-cast-count
-cast-count c = search needs
+cast-wide : tie.Need-cast-wide
+cast-wide c = search needs
 
 cast-raise-rows : tie.Need-cast-raise-rows
 cast-raise-rows c = search needs
@@ -67,8 +67,8 @@ fill-spec =
     mul-from
     add-from
     cast-from
-    sub-count
-    cast-count
+    sub-wide
+    cast-wide
     cast-raise-rows
     cast-raise-rows-2
     raise-rows-requires
