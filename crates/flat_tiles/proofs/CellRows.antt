@@ -28,7 +28,8 @@ pixels-in {grid} {b} x xend yend r s h k l =
 -- Rows and columns of a cell are those that the rules speak of.
 pub cell-fills : (grid : Grid) (c : Cell) → CellOk 1 grid c → {b b′ : List ℕ}
     → ((n : ℕ) (h : List ℕ) → Shows (grid .width) n b h
-    → Shows (grid .width) n b′ (raiseRows (c .yend - c .y) (grid .width) (c .y * grid .width + c .x) (c .xend - c .x) 1 h))
+    → Shows (grid .width) n b′
+    (raiseRows (c .yend - c .y) (grid .width) (c .y * grid .width + c .x) (c .xend - c .x) 1 h))
     → Fills (Shown false grid) (gridIn grid false) (regionIn c) b b′
 unfolding filled
 cell-fills grid c k f = record { shown = λ h u. rw (k .xs .least, k .ys .least) at (f (grid .height) h u) }

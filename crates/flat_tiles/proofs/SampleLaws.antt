@@ -17,11 +17,12 @@ use Rattle.picture.proofs.GridWords.{at-read}
 use Rattle.walk.specs.Cells.{InGrid}
 
 -- What a call for one sample asks, and what its answer is.
-pub axis-asked : (o s : ℤ) (i : ℕ) → SFits w32 o → SFits w32 s → IsValue (at o s i) → IsValue (at (read w32 o) (read w32 s) i)
+pub axis-asked : (o s : ℤ) (i : ℕ) → SFits w32 o → SFits w32 s → IsValue (at o s i)
+    → IsValue (at (read w32 o) (read w32 s) i)
 axis-asked o s i fo fs v = rw (at-read o s i fo fs) v
 
-pub axis-answer : (o s : ℤ) (i : ℕ) (r : ℤ) → SFits w32 o → SFits w32 s → mag r < 2 ^ 31 → r ≡ at (read w32 o) (read w32 s) i
-    → read w32 r ≡ at o s i
+pub axis-answer : (o s : ℤ) (i : ℕ) (r : ℤ) → SFits w32 o → SFits w32 s → mag r < 2 ^ 31
+    → r ≡ at (read w32 o) (read w32 s) i → read w32 r ≡ at o s i
 axis-answer o s i r fo fs h e = back w32 r h (e ∙ at-read o s i fo fs)
 
 module _ (grid : Grid) (x y : ℕ) {a b c : ℤ} (ea : a ≡ at (grid .xfirst) (grid .xstep) x)
@@ -30,7 +31,8 @@ module _ (grid : Grid) (x y : ℕ) {a b c : ℤ} (ea : a ≡ at (grid .xfirst) (
   unfolding sampleAt
   sample-is = rw (ea, eb, ec)
 
-  pub sample-ok : gridFault false (gridIn grid false) ≡ 0 → InGrid 1 grid x y 0 → SampleOk (record { x = a; y = b; z = c })
+  pub sample-ok : gridFault false (gridIn grid false) ≡ 0 → InGrid 1 grid x y 0
+      → SampleOk (record { x = a; y = b; z = c })
   sample-ok e i =
       let t = accepted grid false e in
       record {

@@ -73,7 +73,8 @@ module _ (t : Tape) (grid : Grid) (y : ℕ) (l : y < grid .height) where
 
   one-sample : (x : ℕ) → x < grid .width → (s : D.State) → D.visit [] t (flatIn grid) (D.region x y 0 1) s
       ≡ D.state
-      (pick (material t (D.sampleAt (flatIn grid) x y 0)) (D.raiseRow 1 (y * grid .width + x) 1 (s .heights)) (s .heights))
+      (pick (material t (D.sampleAt (flatIn grid) x y 0))
+      (D.raiseRow 1 (y * grid .width + x) 1 (s .heights)) (s .heights))
       (s .clauses + length (t .clauses))
   unfolding D.hidden D.onSample
   one-sample x k s =
@@ -82,7 +83,8 @@ module _ (t : Tape) (grid : Grid) (y : ℕ) (l : y < grid .height) where
     where
       by-case : (b : Bool) → pick b
           (D.fillIn (flatIn grid) (D.region x y 0 1) (D.counted t s)) (D.counted t s)
-          ≡ D.state (pick b (D.raiseRow 1 (y * grid .width + x) 1 (s .heights)) (s .heights)) (s .clauses + length (t .clauses))
+          ≡ D.state (pick b (D.raiseRow 1 (y * grid .width + x) 1 (s .heights)) (s .heights))
+          (s .clauses + length (t .clauses))
       by-case true = ap (λ h. D.state h (s .clauses + length (t .clauses))) (filled-sample x k (s .heights))
       by-case false = refl
 
@@ -113,7 +115,8 @@ module _ {grid : Grid} {c : Cell} (k : CellOk 1 grid c) (eight : c .side ≡ 8) 
   row-wide = omega (arith, k .xs, eight)
 
   pub row-folds : (ws : List ℕ) (y byte : ℕ) {b b′ : List ℕ} → y < c .yend
-      → ((n : ℕ) → Accepted (tapeIn n ws) → byte ≡ rowByte (materials (c .xend - c .x) (tapeIn n ws) (flatIn grid) (c .x) y))
+      → ((n : ℕ) → Accepted (tapeIn n ws)
+      → byte ≡ rowByte (materials (c .xend - c .x) (tapeIn n ws) (flatIn grid) (c .x) y))
       → ((n : ℕ) (h : List ℕ) (bs : List Bool) → length bs ≤ 8 → c .x + length bs ≤ grid .width → byte ≡ rowByte bs
       → Shows (grid .width) n b h → Shows (grid .width) n b′ (markRow (y * grid .width + c .x) bs h))
       → Folds false 8 ws grid [] (D.alongX 8 (c .x) y 0 1 (c .xend)) b b′ ((c .xend - c .x) * length ws)
@@ -126,10 +129,13 @@ module _ {grid : Grid} {c : Cell} (k : CellOk 1 grid c) (eight : c .side ≡ 8) 
             let w = materials-length t (flatIn grid) y m (c .x) in
             draws-same {f = sampled m t (y * grid .width + c .x) bs}
             (λ s h.
-            ap (λ qs. visits grid qs t s) (row-start y 0 1 (c .xend) (omega arith) 8 (c .x) (omega (arith, k .xs, eight)))
-            ∙ row-sampled t grid y (omega (arith, l, k .ys)) m (c .x) (c .xend) (omega (arith, k .xs)) (k .xs .in-grid) s)
+            ap (λ qs. visits grid qs t s)
+            (row-start y 0 1 (c .xend) (omega arith) 8 (c .x) (omega (arith, k .xs, eight)))
+            ∙ row-sampled t grid y (omega (arith, l, k .ys)) m (c .x) (c .xend) (omega (arith, k .xs))
+            (k .xs .in-grid) s)
             (record {
-              shown = λ s h. f (grid .height) (s .heights) bs (omega (arith, w, row-wide)) (omega (arith, w, k .xs)) (e n a) h;
+              shown = λ s h.
+                  f (grid .height) (s .heights) bs (omega (arith, w, row-wide)) (omega (arith, w, k .xs)) (e n a) h;
               count = λ s h. ap (λ v. s .clauses + m * v) (length-clauses ws);
             });
         bound = mul-le-mul-right (length ws) row-wide;

@@ -21,15 +21,18 @@ fn fill(grid: Grid, c: Cell, picture: &mut [u8])
     requires { ⌜ Ready false grid (now picture) ⌝ }
     requires { ⌜ CellOk 1 grid c ⌝ }
     requires { ⌜ c .x % 8 ≡ 0 ⌝ }
-    ensures { λ _. ⌜ Fills (Shown false grid) (gridIn grid false) (regionIn c) (now (picture .entry)) (now (picture .exit)) ⌝ }
+    ensures { λ _. ⌜ Fills (Shown false grid) (gridIn grid false) (regionIn c)
+        (now (picture .entry)) (now (picture .exit)) ⌝ }
 {
+    let xend = c.xend as usize;
+    let yend = c.yend as usize;
     fill_rect(
         picture,
         grid.width as usize,
         c.x as usize,
         c.y as usize,
-        c.xend as usize,
-        c.yend as usize,
+        xend,
+        yend,
     );
 }
 

@@ -41,7 +41,8 @@ fn row_byte(code: &[u64], grid: Grid, parent: Cell, y: u32) -> u8
     requires { ⌜ CellOk 1 grid parent ⌝ }
     requires { ⌜ (parent .side ≡ 8) × (y < parent .yend) ⌝ }
     ensures { λ r. ⌜ ((n : ℕ) → Accepted (tapeIn n (now (code .entry)))
-        → r ≡ rowByte (materials (parent .xend - parent .x) (tapeIn n (now (code .entry))) (gridIn grid false) (parent .x) y)) ⌝ }
+        → r ≡ rowByte (materials (parent .xend - parent .x) (tapeIn n (now (code .entry))) (gridIn grid false)
+        (parent .x) y)) ⌝ }
 {
     let from = parent.x;
     let mut byte = 0u8;

@@ -72,8 +72,8 @@ fn tile_row(
     requires { ⌜ y < rect .yend ⌝ }
     requires { ⌜ (length (now code) ≤ length (now choices)) × (length (now code) ≤ length (now first))
         × (length (now code) ≤ length (now second)) ⌝ }
-    ensures { λ r. ⌜ Folds false (8 * flatBound) (now (code .entry)) grid below64 (alongX 8 (rect .x) y 0 64 (rect .xend))
-        (now (picture .entry)) (now (picture .exit)) r ⌝ }
+    ensures { λ r. ⌜ Folds false (8 * flatBound) (now (code .entry)) grid below64
+        (alongX 8 (rect .x) y 0 64 (rect .xend)) (now (picture .entry)) (now (picture .exit)) r ⌝ }
 {
     let mut count: u64 = 0;
     let mut x = rect.x;
@@ -99,7 +99,8 @@ fn tile_rows(
     requires { ⌜ (length (now code) ≤ length (now choices)) × (length (now code) ≤ length (now first))
         × (length (now code) ≤ length (now second)) ⌝ }
     ensures { λ r. ⌜ Folds false (64 * flatBound) (now (code .entry)) grid below64
-        (alongY 8 8 (rect .x) (rect .y) 0 64 (rect .xend) (rect .yend)) (now (picture .entry)) (now (picture .exit)) r ⌝ }
+        (alongY 8 8 (rect .x) (rect .y) 0 64 (rect .xend) (rect .yend))
+        (now (picture .entry)) (now (picture .exit)) r ⌝ }
 {
     let mut count: u64 = 0;
     let mut y = rect.y;
@@ -110,15 +111,16 @@ fn tile_rows(
     count
 }
 
-// The tiles of a rectangle, onto what the picture shows. The level buffers are made here, once a call: a short tape is no
-// longer than the tape.
+// The tiles of a rectangle, onto what the picture shows. The level buffers are made here, once a call: a short tape is
+// no longer than the tape.
 pub fn tiles_in(code: &[u64], grid: Grid, rect: Rect, picture: &mut [u8], choices: &mut [u8]) -> u64
     requires { ⌜ Sound (now code) ⌝ }
     requires { ⌜ Ready false grid (now picture) ⌝ }
     requires { ⌜ RectIn grid rect ⌝ }
     requires { ⌜ length (now code) ≤ length (now choices) ⌝ }
     ensures { λ r. ⌜ Folds false (64 * flatBound) (now (code .entry)) grid below64
-        (alongY 8 8 (rect .x) (rect .y) 0 64 (rect .xend) (rect .yend)) (now (picture .entry)) (now (picture .exit)) r ⌝ }
+        (alongY 8 8 (rect .x) (rect .y) 0 64 (rect .xend) (rect .yend))
+        (now (picture .entry)) (now (picture .exit)) r ⌝ }
 {
     let mut first = [0u64; CLAUSE_LIMIT];
     let mut second = [0u64; CLAUSE_LIMIT];

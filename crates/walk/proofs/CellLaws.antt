@@ -38,7 +38,8 @@ module _ (isSolid : Bool) (grid : Grid) (e : gridFault isSolid (gridIn grid isSo
   pub kind : solid (gridIn grid isSolid) ≡ isSolid
   kind = sym (accepted grid isSolid e .kind)
 
-pub ready-small : {isSolid : Bool} {grid : Grid} {b : List ℕ} → Ready isSolid grid b → Small (layersIn isSolid grid) grid
+pub ready-small : {isSolid : Bool} {grid : Grid} {b : List ℕ} → Ready isSolid grid b
+    → Small (layersIn isSolid grid) grid
 ready-small {isSolid} {grid} r = small isSolid grid (r .fault)
 
 pub ends : (w i n e : ℕ) → e ≡ lesser w (i + n) → i < w → 1 ≤ n → Ends w i n e
@@ -64,16 +65,19 @@ module _ (isSolid : Bool) (grid : Grid) (c : Cell) (k : CellOk (layersIn isSolid
     (e : gridFault isSolid (gridIn grid isSolid) ≡ 0) where
   pub x-span : SpanIn (grid .xfirst) (grid .xstep) (c .x) (c .xend)
   x-span =
-      let x = k .xs in record { some = x .some; values = λ i l. accepted grid isSolid e .x-value i (omega (arith, x, l)) }
+      let x = k .xs in
+      record { some = x .some; values = λ i l. accepted grid isSolid e .x-value i (omega (arith, x, l)) }
 
   pub y-span : SpanIn (grid .yfirst) (grid .ystep) (c .y) (c .yend)
   y-span =
-      let y = k .ys in record { some = y .some; values = λ i l. accepted grid isSolid e .y-value i (omega (arith, y, l)) }
+      let y = k .ys in
+      record { some = y .some; values = λ i l. accepted grid isSolid e .y-value i (omega (arith, y, l)) }
 
 pub z-span : (grid : Grid) (c : Cell) → CellOk (grid .depth) grid c → gridFault true (gridIn grid true) ≡ 0
     → SpanIn (grid .zfirst) (grid .zstep) (c .z) (c .zend)
 z-span grid c k e =
-    let z = k .zs in record { some = z .some; values = λ i l. accepted grid true e .z-value refl i (omega (arith, z, l)) }
+    let z = k .zs in
+    record { some = z .some; values = λ i l. accepted grid true e .z-value refl i (omega (arith, z, l)) }
 
 span-ok : {f s : ℤ} {a e : ℕ} {r : Range} → SpanIn f s a e → r ≡ spanOf f s a e → EndsOk r
 span-ok {f} {s} {a} {e} k h =
@@ -90,7 +94,8 @@ span-least f s a h = ap (λ v. range (at f s a) (at f s (v - 1))) h
 module _ (grid : Grid) (c : Cell) {xs ys zs : Range} (hx : xs ≡ spanOf (grid .xfirst) (grid .xstep) (c .x) (c .xend))
     (hy : ys ≡ spanOf (grid .yfirst) (grid .ystep) (c .y) (c .yend)) where
   pub solid-box : CellOk (grid .depth) grid c → gridFault true (gridIn grid true) ≡ 0
-      → zs ≡ spanOf (grid .zfirst) (grid .zstep) (c .z) (c .zend) → CellBox true grid c (record { xs = xs; ys = ys; zs = zs })
+      → zs ≡ spanOf (grid .zfirst) (grid .zstep) (c .z) (c .zend)
+      → CellBox true grid c (record { xs = xs; ys = ys; zs = zs })
   unfolding boxOf
   solid-box k e hz =
       let past : c .zend ≡ pastZ (gridIn grid true) (regionIn c) = rw (kind true grid e) (k .zs .least) in

@@ -48,13 +48,23 @@ visit-eight-requires c κs =
     let i = at-test t .loop .inv in
     let s = start (at-test t) in
     let p = s .pre .1 .1 in
-    (s .pre .0, (ready-again (s .pre .1 .0) (i .0 .place .size), (child-in _ _ _ (p .0) (t .if1 .taken) (p .1 .0 .2) (omega (arith, p .0 .zs)), (omega (arith, i .0 .place .place, p .1 .0 .1), (omega arith, omega arith)))))
+    let r = ready-again (s .pre .1 .0) (i .0 .place .size) in (
+      s .pre .0,
+      (
+        r,
+        (
+          child-in _ _ _ (p .0) (t .if1 .taken) (p .1 .0 .2) (omega (arith, p .0 .zs)),
+          (omega (arith, i .0 .place .place, p .1 .0 .1), (omega arith, omega arith)),
+        ),
+      ),
+    )
 
 add-count : tie.Need-add-count Inv-loop μ-loop
 add-count c =
     let t = in-turn (called c .before) in
     let l = at-test t in
-    omega (arith, sound-length (start l .pre .0), up-sum (l .loop .inv .0 .place) (t .if1 .taken) (called c .visit-eight .ensures .bound))
+    let u = up-sum (l .loop .inv .0 .place) (t .if1 .taken) (called c .visit-eight .ensures .bound) in
+    omega (arith, sound-length (start l .pre .0), u)
 
 add-x : tie.Need-add-x Inv-loop μ-loop
 add-x c =
@@ -72,7 +82,8 @@ loop-again c =
     let t = in-turn (called c .before) in
     let i = at-test t .loop .inv in
     let kept = v .kept .1 .1 .1 .1 in
-    (row-again (i .0) (t .if1 .taken) (v .ensures) (kept .0), kept .1 .0 ∙ i .1, kept .1 .1 .0 ∙ i .2)
+    let again = row-again (i .0) (t .if1 .taken) (v .ensures) (kept .0) in
+    (again, kept .1 .0 ∙ i .1, kept .1 .1 .0 ∙ i .2)
 
 same-length : tie.Need-same-length Inv-loop μ-loop
 same-length c = past c .loop .inv .0 .place .size

@@ -14,7 +14,8 @@ use Rattle.flat_tiles.proofs.eights.eight_rows.Tie as tie
 
 abbrev Inv-loop : tie.InvT-loop
 Inv-loop code grid parent picture₀ choices₀ second₀ count₀ y₀ picture choices second count y =
-    AtRow false 8 8 (8 * 65) code grid below8 (parent .x) (parent .xend) (parent .y) (parent .yend) 0 picture₀ picture count y
+    AtRow false 8 8 (8 * 65) code grid below8 (parent .x) (parent .xend) (parent .y) (parent .yend) 0
+    picture₀ picture count y
     × (length choices ≡ length choices₀)
     × (length second ≡ length second₀)
 
@@ -48,13 +49,15 @@ eight-row-requires c κs =
     let i = at-test t .loop .inv in
     let s = start (at-test t) in
     let p = s .pre .1 .1 in
-    (s .pre .0, (ready-again (s .pre .1 .0) (i .0 .place .size), (p .0, ((p .1 .0 .0, p .1 .0 .1, t .if1 .taken), (omega arith, omega arith)))))
+    let r = ready-again (s .pre .1 .0) (i .0 .place .size) in
+    (s .pre .0, (r, (p .0, ((p .1 .0 .0, p .1 .0 .1, t .if1 .taken), (omega arith, omega arith)))))
 
 add-count : tie.Need-add-count Inv-loop μ-loop
 add-count c =
     let t = in-turn (called c .before) in
     let l = at-test t in
-    omega (arith, sound-length (start l .pre .0), up-sum (l .loop .inv .0 .place) (t .if1 .taken) (called c .eight-row .ensures .bound))
+    let u = up-sum (l .loop .inv .0 .place) (t .if1 .taken) (called c .eight-row .ensures .bound) in
+    omega (arith, sound-length (start l .pre .0), u)
 
 add-y : tie.Need-add-y Inv-loop μ-loop
 add-y c =
@@ -72,7 +75,8 @@ loop-again c =
     let t = in-turn (called c .before) in
     let i = at-test t .loop .inv in
     let kept = v .kept .1 .1 .1 .1 in
-    (rows-again (i .0) (t .if1 .taken) (v .ensures) (kept .0), kept .1 .0 ∙ i .1, kept .1 .1 .0 ∙ i .2)
+    let again = rows-again (i .0) (t .if1 .taken) (v .ensures) (kept .0) in
+    (again, kept .1 .0 ∙ i .1, kept .1 .1 .0 ∙ i .2)
 
 same-length : tie.Need-same-length Inv-loop μ-loop
 same-length c = past c .loop .inv .0 .place .size

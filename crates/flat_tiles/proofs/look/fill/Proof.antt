@@ -9,6 +9,12 @@ use Rattle.flat_tiles.proofs.look.fill.Tie as tie
 abbrev start : tie.After-struct-known5 → tie.Start
 start c = c .before .before .before .before .before .before .before
 
+cast-xend : tie.Need-cast-xend
+cast-xend c = search needs
+
+cast-yend : tie.Need-cast-yend
+cast-yend c = search needs
+
 cast-fill-rect : tie.Need-cast-fill-rect
 cast-fill-rect c = search needs
 
@@ -17,12 +23,6 @@ cast-fill-rect-2 c = search needs
 
 cast-fill-rect-3 : tie.Need-cast-fill-rect-3
 cast-fill-rect-3 c = search needs
-
-cast-fill-rect-4 : tie.Need-cast-fill-rect-4
-cast-fill-rect-4 c = search needs
-
-cast-fill-rect-5 : tie.Need-cast-fill-rect-5
-cast-fill-rect-5 c = search needs
 
 fill-rect-requires : tie.Need-fill-rect-requires
 fill-rect-requires c κs =
@@ -43,11 +43,11 @@ pub fill-spec : {M : Type 1} → statement M
 fill-spec =
     tie.close
     (tie.spec
+    cast-xend
+    cast-yend
     cast-fill-rect
     cast-fill-rect-2
     cast-fill-rect-3
-    cast-fill-rect-4
-    cast-fill-rect-5
     fill-rect-requires
     same-length
     returns)

@@ -24,7 +24,8 @@ ranged c = c .before .before .before
 
 -- Nothing is hidden in a flat drawing.
 seen : (c : tie.After-flat-bounds)
-    → let a = start c .args in Hidden (Shown false (a .grid)) (gridIn (a .grid) false) (regionIn (a .c)) (a .picture .now) false
+    → let a = start c .args in
+    Hidden (Shown false (a .grid)) (gridIn (a .grid) false) (regionIn (a .c)) (a .picture .now) false
 seen c = seen-flat _ _ _ _ refl
 
 flat-bounds-requires : tie.Need-flat-bounds-requires
@@ -101,7 +102,8 @@ returns-3 c =
     let j = ranged v in
     let b = with-box j in
     opened false (b .flat-bounds .ensures) (seen b) (j .run-ranges .ensures)
-    (mixed-of _ (v .verdict-on .ensures) (told .enum-told3 .given .1)) (shortened .shorten .ensures) (shortened .shorten .kept .1 .1 .0)
+    (mixed-of _ (v .verdict-on .ensures) (told .enum-told3 .given .1)) (shortened .shorten .ensures)
+    (shortened .shorten .kept .1 .1 .0)
 
 pub look-spec : {M : Type 1} → statement M
 look-spec =

@@ -21,11 +21,13 @@ use Rattle.flat_tiles.proofs.samples.row_byte.Tie as tie
 record RowSoFar (ws : List ℕ) (grid : Grid) (from end y made x : ℕ) : Type 0 where
   above : from ≤ x
   under : x ≤ end
-  byte : (n : ℕ) → Accepted (tapeIn n ws) → made ≡ rowByte (materials (x - from) (tapeIn n ws) (gridIn grid false) from y)
+  byte : (n : ℕ) → Accepted (tapeIn n ws)
+      → made ≡ rowByte (materials (x - from) (tapeIn n ws) (gridIn grid false) from y)
 
 -- At the row's end.
-all-so-far : {ws : List ℕ} {grid : Grid} {from end y made x : ℕ} → RowSoFar ws grid from end y made x → end ≤ x → (n : ℕ)
-    → Accepted (tapeIn n ws) → made ≡ rowByte (materials (end - from) (tapeIn n ws) (gridIn grid false) from y)
+all-so-far : {ws : List ℕ} {grid : Grid} {from end y made x : ℕ} → RowSoFar ws grid from end y made x → end ≤ x
+    → (n : ℕ) → Accepted (tapeIn n ws)
+    → made ≡ rowByte (materials (end - from) (tapeIn n ws) (gridIn grid false) from y)
 all-so-far {end = end} {x = x} r h n a = let e : x ≡ end = omega (arith, r .under) in rw e at (r .byte n a)
 
 abbrev Inv-loop : tie.InvT-loop
@@ -59,7 +61,8 @@ sample-at-requires : tie.Need-sample-at-requires Inv-loop μ-loop
 sample-at-requires c κs =
     let p = start (at-test c) .pre .1 in
     let k = p .1 .0 in
-    (p .0, record { x-in = omega (arith, k .xs, c .if1 .taken); y-in = omega (arith, k .ys, p .1 .1 .1); z-in = omega arith })
+    let t = c .if1 .taken in
+    (p .0, record { x-in = omega (arith, k .xs, t); y-in = omega (arith, k .ys, p .1 .1 .1); z-in = omega arith })
 
 run-values-requires : tie.Need-run-values-requires Inv-loop μ-loop
 run-values-requires c κs = (sound-runs (start (at-test (c .before)) .pre .0), c .sample-at .ensures .1)
@@ -97,8 +100,10 @@ loop-again c =
           let tp = tapeIn n (a .code .now) in
           let e = v .ensures .value n (fit-of s) ∙ ap (valueAt tp) (r .before .sample-at .ensures .0) in
           let k = sign (v .result) (valueAt tp (sampleAt g (l .x) (a .y) 0)) _ (record { sfits = v .ok }) refl e in
-          c .with-pixel .ensures (materials (l .x - a .parent .x) tp g (a .parent .x) (a .y)) (materials-length tp g (a .y) (l .x - a .parent .x) (a .parent .x)) (i .byte n s)
-          ∙ ap rowByte (materials-next tp g (a .y) (a .parent .x) (l .x) _ (i .above) k);
+          let x = a .parent .x in
+          let m = l .x - x in
+          c .with-pixel .ensures (materials m tp g x (a .y)) (materials-length tp g (a .y) m x) (i .byte n s)
+          ∙ ap rowByte (materials-next tp g (a .y) x (l .x) _ (i .above) k);
     }
 
 returns : tie.Need-returns Inv-loop μ-loop

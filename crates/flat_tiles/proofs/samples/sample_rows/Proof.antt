@@ -50,7 +50,8 @@ add-count : tie.Need-add-count Inv-loop μ-loop
 add-count c =
     let t = in-turn (called c .before) in
     let l = at-test t in
-    omega (arith, sound-length (start l .pre .0), up-sum (l .loop .inv .place) (t .if1 .taken) (called c .sample-row .ensures .bound))
+    let u = up-sum (l .loop .inv .place) (t .if1 .taken) (called c .sample-row .ensures .bound) in
+    omega (arith, sound-length (start l .pre .0), u)
 
 add-y : tie.Need-add-y Inv-loop μ-loop
 add-y c =

@@ -25,7 +25,8 @@ tiles-in-requires : tie.Need-tiles-in-requires
 tiles-in-requires c κs =
     let u = cleared c in
     let p = start u .pre in
-    (p .0, (ready-again (p .1 .0) (u .clear .kept .0), (record { start = refl; columns = omega arith; rows = omega arith }, p .1 .1)))
+    let r = ready-again (p .1 .0) (u .clear .kept .0) in
+    (p .0, (r, (record { start = refl; columns = omega arith; rows = omega arith }, p .1 .1)))
 
 same-length : tie.Need-same-length
 same-length c = search needs

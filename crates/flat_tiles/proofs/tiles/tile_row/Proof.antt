@@ -51,13 +51,23 @@ visit-tile-requires c κs =
     let i = at-test t .loop .inv in
     let s = start (at-test t) in
     let p = s .pre .1 .1 in
-    (s .pre .0, (ready-again (s .pre .1 .0) (i .0 .place .size), (record { x-in = omega (arith, t .if1 .taken); y-in = omega arith; z-in = omega arith }, (omega (arith, i .0 .place .place, p .0 .start), (omega arith, omega arith, omega arith)))))
+    let r = ready-again (s .pre .1 .0) (i .0 .place .size) in (
+      s .pre .0,
+      (
+        r,
+        (
+          record { x-in = omega (arith, t .if1 .taken); y-in = omega arith; z-in = omega arith },
+          (omega (arith, i .0 .place .place, p .0 .start), (omega arith, omega arith, omega arith)),
+        ),
+      ),
+    )
 
 add-count : tie.Need-add-count Inv-loop μ-loop
 add-count c =
     let t = in-turn (called c .before) in
     let l = at-test t in
-    omega (arith, sound-length (start l .pre .0), up-sum (l .loop .inv .0 .place) (t .if1 .taken) (called c .visit-tile .ensures .bound))
+    let u = up-sum (l .loop .inv .0 .place) (t .if1 .taken) (called c .visit-tile .ensures .bound) in
+    omega (arith, sound-length (start l .pre .0), u)
 
 add-x : tie.Need-add-x Inv-loop μ-loop
 add-x c =
@@ -75,7 +85,8 @@ loop-again c =
     let t = in-turn (called c .before) in
     let i = at-test t .loop .inv in
     let kept = v .kept .1 .1 .1 .1 in
-    (row-again (i .0) (t .if1 .taken) (v .ensures) (kept .0), kept .1 .0 ∙ i .1, kept .1 .1 .0 ∙ i .2, kept .1 .1 .1 .0 ∙ i .3)
+    let again = row-again (i .0) (t .if1 .taken) (v .ensures) (kept .0) in
+    (again, kept .1 .0 ∙ i .1, kept .1 .1 .0 ∙ i .2, kept .1 .1 .1 .0 ∙ i .3)
 
 same-length : tie.Need-same-length Inv-loop μ-loop
 same-length c = past c .loop .inv .0 .place .size

@@ -31,7 +31,8 @@ abbrev visited : tie.After-slice-known10 → tie.After-eight-rows
 visited c = c .before .before .before .before .before .before
 
 -- What is known at them.
-made : (c : tie.After-cell-at) → let a = start c .args in CellOf 1 (a .grid) (region (a .x) (a .y) 0 64) (c .cell-at .result)
+made : (c : tie.After-cell-at)
+    → let a = start c .args in CellOf 1 (a .grid) (region (a .x) (a .y) 0 64) (c .cell-at .result)
 made c = c .cell-at .ensures
 
 begins : (c : tie.After-cell-at) → c .cell-at .result .x % 8 ≡ 0
@@ -40,8 +41,8 @@ begins c = omega (arith, ap (λ (q : Region). q .i) (made c .same), start c .pre
 opened : (c : tie.After-known-told2)
     → let j = looked c in
     let a = start (with-cell j) .args in
-    Opened false (a .code .now) (a .grid) (regionIn (with-cell j .cell-at .result)) (a .picture .now) (j .look .last .1 .1 .1 .0)
-    (j .look .last .1 .1 .1 .1 .1 .0) (c .before .seen2 .given .0 .0)
+    Opened false (a .code .now) (a .grid) (regionIn (with-cell j .cell-at .result)) (a .picture .now)
+    (j .look .last .1 .1 .1 .0) (j .look .last .1 .1 .1 .1 .1 .0) (c .before .seen2 .given .0 .0)
 opened c = open-of false _ _ _ _ _ _ (looked c .look .ensures) (c .before .seen2 .given .1)
 
 cell-at-requires : tie.Need-cell-at-requires
@@ -85,11 +86,12 @@ eight-rows-requires c κs =
     let j = looked t in
     let k = with-cell j in
     let p = start k .pre in
-    let r = p .1 .1 .1 .1 in
+    let l = p .1 .1 .1 .1 in
     let f = open-fewer (p .0) (opened t) in
-    let short = open-sound (p .0) (opened t) in (
+    let short = open-sound (p .0) (opened t) in
+    let side = ap (λ (q : Region). q .long) (made k .same) in (
       search (short, p .0),
-      (ready-again (p .1 .0) (j .look .kept .1 .1 .1 .0), (made k .ok, ((ap (λ (q : Region). q .long) (made k .same), begins k), (omega arith, omega arith)))),
+      (ready-again (p .1 .0) (j .look .kept .1 .1 .1 .0), (made k .ok, ((side, begins k), (omega arith, omega arith)))),
     )
 
 add-result : tie.Need-add-result
@@ -111,7 +113,8 @@ same-length-3 c = search needs
 returns : tie.Need-returns
 returns c =
     let j = c .before .before .before .before .before .before .before .before .before in
-    done-visits flatBound 8 below8 (made (with-cell j) .same) (omega arith) (done-of false _ _ _ _ _ _ (j .look .ensures) (c .before .seen .given .1))
+    done-visits flatBound 8 below8 (made (with-cell j) .same) (omega arith)
+    (done-of false _ _ _ _ _ _ (j .look .ensures) (c .before .seen .given .1))
 
 same-length-4 : tie.Need-same-length-4
 same-length-4 c = search needs
@@ -130,7 +133,8 @@ returns-2 c =
     let u = visited c in
     let t = in-cut (u .before) in
     let k = with-cell (looked t) in
-    open-rows 8 8 (start k .pre .0) (omega arith) (omega arith) refl (made k) (opened t) below8 (64 * 65) (u .eight-rows .ensures)
+    open-rows 8 8 (start k .pre .0) (omega arith) (omega arith) refl (made k) (opened t) below8 (64 * 65)
+    (u .eight-rows .ensures)
 
 pub visit-tile-spec : {M : Type 1} → statement M
 visit-tile-spec =
