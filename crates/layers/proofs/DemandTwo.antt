@@ -2,7 +2,7 @@
 -- second call refuses nothing but an output of the wrong length.
 use mathlib.Core.Path.{_≡_, sym, ap, ap₂, _∙_}
 use mathlib.Core.Bool.{true, not}
-use mathlib.Core.List.{List}
+use mathlib.Core.List.{List, [], _∷_}
 use Prim.Native.Nat.{ℕ}
 use lib.IntN.{ℤ}
 use lib.Dec.{eqb}
@@ -10,12 +10,12 @@ use lib.ListN.{length}
 use borrow.Author.Tests.{eq-eqb}
 use Rattle.rules.specs.Values.{pick, when}
 use Rattle.rules.specs.Tapes.{Got, readTape, readList, tapeBytes, listOf, allIn32}
+use Rattle.rules.proofs.Lines.{first-none, each-line}
 use Rattle.rules.proofs.Bytes.{both-ways}
 use Rattle.rules.proofs.Reading.{list-tape}
 use Rattle.layers.specs.declared.Answer.{Answer}
 use Rattle.layers.specs.declared.Listed.{Listed}
 use Rattle.layers.specs.Says.{copyFault, PackSays, UnpackSays}
-use Rattle.layers.proofs.Drawing.{first-left}
 
 -- "output not of the exact length": of b.
 abbrev pub lengthFault : {A : Type 0} → List A → List A → ℕ
@@ -31,7 +31,10 @@ packed n zs o o′ r f e =
     let g = readList n zs in
     let x = copyFault g (tapeBytes (g .tape)) o in
     let z : x ≡ 0 = sym (f .answer .number) ∙ e in
-    record { read = first-left (g .number) _ z; out = f .out ∙ rw (eq-eqb x 0 z) }
+    record {
+      read = each-line (g .number ∷ (lengthFault (tapeBytes (g .tape)) o ∷ [])) z 0;
+      out = f .out ∙ rw (eq-eqb x 0 z);
+    }
 
 pub record Unpacked (s : List ℕ) (o′ : List ℤ) (n : ℕ) : Type 0 where
   pub read : readTape s .number ≡ 0
@@ -45,7 +48,11 @@ unpacked s o o′ r f e =
     let x = copyFault g (listOf (g .tape .clauses)) o in
     let z : x ≡ 0 = sym (f .answer .number) ∙ e in
     let k = eq-eqb x 0 z in
-    record { read = first-left (g .number) _ z; out = f .out ∙ rw k; slots = f .slots ∙ rw k }
+    record {
+      read = each-line (g .number ∷ (lengthFault (listOf (g .tape .clauses)) o ∷ [])) z 0;
+      out = f .out ∙ rw k;
+      slots = f .slots ∙ rw k;
+    }
 
 -- List, tape, list. That a lent list is of 32-bit numbers its type says, but no promise does.
 pub record ListAgain (n : ℕ) (zs p p′ : List ℤ) (q : Listed) : Type 0 where
@@ -63,7 +70,7 @@ list-again n zs o o′ r p p′ q w f e h =
     record {
       number = h .answer .number
           ∙ ap (λ (x : Got). copyFault x (listOf (x .tape .clauses)) p) same
-          ∙ rw (a .read, b .1);
+          ∙ rw (a .read, b .1) (first-none (lengthFault zs p));
       list = λ z. unpacked o′ p p′ q h z .out ∙ ap (λ (x : Got). listOf (x .tape .clauses)) same ∙ b .1;
       slots = λ z. unpacked o′ p p′ q h z .slots
           ∙ ap (λ (x : Got). x .tape .slots) (same ∙ list-tape n zs (a .read));
@@ -83,6 +90,6 @@ tape-again s p p′ q o o′ r f e h =
     record {
       number = h .answer .number
           ∙ ap (λ (x : Got). copyFault x (tapeBytes (x .tape)) o) same
-          ∙ rw (a .read, b .0);
+          ∙ rw (a .read, b .0) (first-none (lengthFault s o));
       bytes = λ z. packed (q .slots) p′ o o′ r h z .out ∙ ap (λ (x : Got). tapeBytes (x .tape)) same ∙ b .0;
     }

@@ -1,6 +1,6 @@
 -- What the public calls promise: number, place, count and every lent byte, for all inputs.
 use mathlib.Core.Path.{_≡_}
-use mathlib.Core.Bool.{Bool, not}
+use mathlib.Core.Bool.{Bool, true, not}
 use mathlib.Core.List.{List, [], _∷_, _++_}
 use lib.IntN.{ℤ}
 use Prim.Native.Nat.{ℕ, _*_}
