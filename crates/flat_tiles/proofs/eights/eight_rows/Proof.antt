@@ -22,9 +22,12 @@ Inv-loop code grid parent picture₀ choices₀ second₀ count₀ y₀ picture 
 abbrev μ-loop : tie.MeasureT-loop
 μ-loop code grid parent picture₀ choices₀ second₀ count₀ y₀ picture choices second count y = parent .yend - y
 
--- The places: before the loop, at its test, in a turn, after the call, and past the loop.
+-- The places: the start, before the loop and at its test; in a turn, after the call, and past the loop.
+abbrev begun : tie.After-slice-known3 Inv-loop μ-loop → tie.Start Inv-loop μ-loop
+begun c = c .before .before .before .before
+
 abbrev start : tie.At-loop Inv-loop μ-loop → tie.Start Inv-loop μ-loop
-start c = c .before .before .before .before .before
+start c = begun (c .before)
 
 abbrev at-test : tie.Then1 Inv-loop μ-loop → tie.At-loop Inv-loop μ-loop
 at-test c = c .before .before
@@ -40,7 +43,7 @@ past c = c .before .before
 
 loop-holds : tie.Need-loop-holds Inv-loop μ-loop
 loop-holds c =
-    let p = c .before .before .before .before .pre .1 in
+    let p = begun c .pre .1 in
     (rows-begin _ (omega arith) (omega arith), refl, refl)
 
 eight-row-requires : tie.Need-eight-row-requires Inv-loop μ-loop

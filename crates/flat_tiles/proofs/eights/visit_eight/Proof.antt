@@ -14,12 +14,19 @@ use borrow.Author.Needs.{needs}
 use Rattle.flat_tiles.proofs.eights.visit_eight.Statement.{statement}
 use Rattle.flat_tiles.proofs.eights.visit_eight.Tie as tie
 
--- The places: once the cell is made, after the look, the arm of a cut, the call for its children, and after it.
+-- The places: the start, before and after the cell is made; the look, from either arm; in the arm of a cut the call for
+-- the children, and what is after it.
+abbrev begun : tie.After-slice-known3 → tie.Start
+begun c = c .before .before .before .before
+
 abbrev start : tie.After-cell-at → tie.Start
-start c = c .before .before .before .before .before
+start c = begun (c .before)
 
 abbrev with-cell : tie.After-look → tie.After-cell-at
 with-cell c = c .before .before .before .before
+
+abbrev done : tie.After-known-told → tie.After-look
+done c = c .before .before .before .before .before .before .before .before .before
 
 abbrev looked : tie.After-known-told2 → tie.After-look
 looked c = c .before .before .before .before .before .before .before .before .before
@@ -47,8 +54,7 @@ opened c = open-of false _ _ _ _ _ _ (looked c .look .ensures) (c .before .seen2
 
 cell-at-requires : tie.Need-cell-at-requires
 cell-at-requires c κs =
-    let s = c .before .before .before .before in
-    (ready-small (s .pre .1 .0), (s .pre .1 .1 .0, (omega arith, omega arith)))
+    let p = begun c .pre .1 in (ready-small (p .0), (p .1 .0, (omega arith, omega arith)))
 
 look-requires : tie.Need-look-requires
 look-requires c κs =
@@ -110,7 +116,7 @@ same-length-3 c = search needs
 
 returns : tie.Need-returns
 returns c =
-    let j = c .before .before .before .before .before .before .before .before .before in
+    let j = done c in
     done-visits 65 1 [] (made (with-cell j) .same) (omega arith)
     (done-of false _ _ _ _ _ _ (j .look .ensures) (c .before .seen .given .1))
 

@@ -12,9 +12,13 @@ use borrow.Author.Needs.{needs}
 use Rattle.flat_tiles.proofs.look.look.Statement.{statement}
 use Rattle.flat_tiles.proofs.look.look.Tie as tie
 
--- The places: the start, once the box is made, that, once its range is there, and that, once there is a verdict.
+-- The places: the start, before and after the box is made, that, once its range is there, and that, once there is a
+-- verdict.
+abbrev begun : tie.After-slice-known3 → tie.Start
+begun c = c .before .before .before .before
+
 abbrev start : tie.After-flat-bounds → tie.Start
-start c = c .before .before .before .before .before
+start c = begun (c .before)
 
 abbrev with-box : tie.After-run-ranges → tie.After-flat-bounds
 with-box c = c .before .before
@@ -29,8 +33,7 @@ seen : (c : tie.After-flat-bounds)
 seen c = seen-flat _ _ _ _ refl
 
 flat-bounds-requires : tie.Need-flat-bounds-requires
-flat-bounds-requires c κs =
-    let p = c .before .before .before .before .pre .1 in (p .0 .fault, p .1 .0)
+flat-bounds-requires c κs = let p = begun c .pre .1 in (p .0 .fault, p .1 .0)
 
 run-ranges-requires : tie.Need-run-ranges-requires
 run-ranges-requires c κs =

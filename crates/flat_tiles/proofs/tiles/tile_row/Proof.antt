@@ -23,9 +23,12 @@ Inv-loop code grid rect y picture₀ choices₀ first₀ second₀ count₀ x₀
 abbrev μ-loop : tie.MeasureT-loop
 μ-loop code grid rect y picture₀ choices₀ first₀ second₀ count₀ x₀ picture choices first second count x = rect .xend - x
 
--- The places: before the loop, at its test, in a turn, after the call, and past the loop.
+-- The places: the start, before the loop and at its test; in a turn, after the call, and past the loop.
+abbrev begun : tie.After-slice-known4 Inv-loop μ-loop → tie.Start Inv-loop μ-loop
+begun c = c .before .before .before .before .before
+
 abbrev start : tie.At-loop Inv-loop μ-loop → tie.Start Inv-loop μ-loop
-start c = c .before .before .before .before .before .before
+start c = begun (c .before)
 
 abbrev at-test : tie.Then1 Inv-loop μ-loop → tie.At-loop Inv-loop μ-loop
 at-test c = c .before .before
@@ -41,7 +44,7 @@ past c = c .before .before
 
 loop-holds : tie.Need-loop-holds Inv-loop μ-loop
 loop-holds c =
-    let p = c .before .before .before .before .before .pre .1 in
+    let p = begun c .pre .1 in
     let d = ready-small (p .0) in
     (row-begins _ (omega arith) (omega arith), refl, refl, refl)
 
