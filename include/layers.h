@@ -58,14 +58,14 @@ typedef struct {
     uint8_t slots;
 } LayersListed;
 
-/* Sample i on an axis is first + i * step. A flat drawing reads neither depth nor zstep; its one z is zfirst. */
+/* Sample i on an axis is origin + i * step. A flat drawing reads neither depth nor zstep; its one z is zorigin. */
 typedef struct {
     uint32_t width;
     uint32_t height;
     uint32_t depth;
-    int32_t xfirst;
-    int32_t yfirst;
-    int32_t zfirst;
+    int32_t xorigin;
+    int32_t yorigin;
+    int32_t zorigin;
     int32_t xstep;
     int32_t ystep;
     int32_t zstep;

@@ -25,8 +25,8 @@ pub axis-answer : (o s : ℤ) (i : ℕ) (r : ℤ) → SFits w32 o → SFits w32 
     → r ≡ at (read w32 o) (read w32 s) i → read w32 r ≡ at o s i
 axis-answer o s i r fo fs h e = back w32 r h (e ∙ at-read o s i fo fs)
 
-module _ (grid : Grid) (x y : ℕ) {a b c : ℤ} (ea : a ≡ at (grid .xfirst) (grid .xstep) x)
-    (eb : b ≡ at (grid .yfirst) (grid .ystep) y) (ec : c ≡ grid .zfirst) where
+module _ (grid : Grid) (x y : ℕ) {a b c : ℤ} (ea : a ≡ at (grid .xorigin) (grid .xstep) x)
+    (eb : b ≡ at (grid .yorigin) (grid .ystep) y) (ec : c ≡ grid .zorigin) where
   pub sample-is : _≡_ {A = Sample} (record { x = a; y = b; z = c }) (sampleAt (gridIn grid false) x y 0)
   unfolding sampleAt
   sample-is = rw (ea, eb, ec)

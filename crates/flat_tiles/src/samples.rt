@@ -28,9 +28,9 @@ fn sample_at(grid: Grid, x: u32, y: u32) -> Sample
     ensures { λ r. ⌜ (sampleIn r ≡ sampleAt (gridIn grid false) x y 0) × SampleOk (sampleIn r) ⌝ }
 {
     Sample {
-        x: sample(grid.xfirst, grid.xstep, x),
-        y: sample(grid.yfirst, grid.ystep, y),
-        z: grid.zfirst,
+        x: sample(grid.xorigin, grid.xstep, x),
+        y: sample(grid.yorigin, grid.ystep, y),
+        z: grid.zorigin,
     }
 }
 

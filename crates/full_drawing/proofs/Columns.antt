@@ -66,11 +66,11 @@ module _ (grid : Grid) (a : Accepted grid true) where
   solid-layers = ap (λ t. pick t (grid .depth) 1) (a .kind)
 
   pub solid-sample : (i j k : ℕ)
-      → sampleIn grid i j (at (grid .zfirst) (grid .zstep) k) ≡ sampleAt (gridIn grid true) i j k
+      → sampleIn grid i j (at (grid .zorigin) (grid .zstep) k) ≡ sampleAt (gridIn grid true) i j k
   unfolding sampleAt
   solid-sample i j k =
-      ap (λ t. sampleIn grid i j (pick t (at (grid .zfirst) (grid .zstep) k) (grid .zfirst))) (a .kind)
+      ap (λ t. sampleIn grid i j (pick t (at (grid .zorigin) (grid .zstep) k) (grid .zorigin))) (a .kind)
 
   pub solid-ok : (i j k : ℕ) → i < grid .width → j < grid .height → k < grid .depth
-      → SampleOk (sampleIn grid i j (at (grid .zfirst) (grid .zstep) k))
+      → SampleOk (sampleIn grid i j (at (grid .zorigin) (grid .zstep) k))
   solid-ok i j k l m o = record { x = a .x-value i l; y = a .y-value j m; z = a .z-value refl k o }

@@ -127,10 +127,10 @@ module _ (ws : List ℕ) (g : D.Grid) (i j count : ℕ) where
       }
 
 -- A flat grid's samples, as the code has them, are values.
-pub flat-sample : (grid : Grid) (i j : ℕ) → sampleIn grid i j (grid .zfirst) ≡ sampleAt (gridIn grid false) i j 0
+pub flat-sample : (grid : Grid) (i j : ℕ) → sampleIn grid i j (grid .zorigin) ≡ sampleAt (gridIn grid false) i j 0
 unfolding sampleAt
 flat-sample grid i j = refl
 
 pub flat-ok : (grid : Grid) (a : Accepted grid false) (i j : ℕ) → i < grid .width → j < grid .height
-    → SampleOk (sampleIn grid i j (grid .zfirst))
+    → SampleOk (sampleIn grid i j (grid .zorigin))
 flat-ok grid a i j l m = record { x = a .x-value i l; y = a .y-value j m; z = a .flat-z }

@@ -15,7 +15,7 @@ use Rattle.picture.specs.declared.grid.Grid as declared-grid
 
 -- The sample of pixel i of row j with a given third number.
 abbrev pub sampleIn : declared-grid.Grid → ℕ → ℕ → ℤ → Sample
-sampleIn g i j z = record { x = at (g .xfirst) (g .xstep) i; y = at (g .yfirst) (g .ystep) j; z = z }
+sampleIn g i j z = record { x = at (g .xorigin) (g .xstep) i; y = at (g .yorigin) (g .ystep) j; z = z }
 
 -- Words that can be run, and a grid that no line refuses.
 pub record Drawable (isSolid : Bool) (ws : List ℕ) (g : Grid) : Type 0 where

@@ -29,7 +29,7 @@ fn row_byte(code: &[u64], grid: Grid, i: u32, j: u32) -> u8
     let mut byte = 0;
     let mut k = 0;
     while k < count {
-        let on = has_material(code, grid, i + k, j, grid.zfirst);
+        let on = has_material(code, grid, i + k, j, grid.zorigin);
         byte = with_pixel(byte, k, on);
         k += 1;
     }

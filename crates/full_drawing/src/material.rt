@@ -13,7 +13,7 @@ pub fn has_material(code: &[u64], grid: Grid, i: u32, j: u32, z: i32) -> bool
     requires { ⌜ SampleOk (sampleIn grid i j z) ⌝ }
     ensures { λ r. ⌜ Says (now (code .entry)) (sampleIn grid i j z) r ⌝ }
 {
-    let x = sample(grid.xfirst, grid.xstep, i);
-    let y = sample(grid.yfirst, grid.ystep, j);
+    let x = sample(grid.xorigin, grid.xstep, i);
+    let y = sample(grid.yorigin, grid.ystep, j);
     run_values(code, Sample { x: x, y: y, z: z }) < 0
 }

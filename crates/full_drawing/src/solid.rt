@@ -20,7 +20,7 @@ fn column(code: &[u64], grid: Grid, i: u32, j: u32) -> u16
     let mut height = 0;
     let mut k = 0;
     while k < grid.depth {
-        let z = sample(grid.zfirst, grid.zstep, k);
+        let z = sample(grid.zorigin, grid.zstep, k);
         let above = k + 1;
         if has_material(code, grid, i, j, z) {
             height = above as u16;

@@ -16,9 +16,9 @@ use Rattle.picture.specs.declared.grid.Grid.{Grid}
 
 -- What a grid's type says of its fields with a sign, and where they stand in what is told of a grid.
 pub record InWords (grid : Grid) : Type 0 where
-  pub xfirst : SFits w32 (grid .xfirst)
-  pub yfirst : SFits w32 (grid .yfirst)
-  pub zfirst : SFits w32 (grid .zfirst)
+  pub xorigin : SFits w32 (grid .xorigin)
+  pub yorigin : SFits w32 (grid .yorigin)
+  pub zorigin : SFits w32 (grid .zorigin)
   pub xstep : SFits w32 (grid .xstep)
   pub ystep : SFits w32 (grid .ystep)
   pub zstep : SFits w32 (grid .zstep)
@@ -27,15 +27,15 @@ abbrev Told : Type 0 → ℤ → Type 0
 Told A z = A × (mag z < 2 ^ 31)
 
 pub in-words : {P Q R A B C D E F : Type 0} {grid : Grid}
-    → P × (Q × (R × (Told A (grid .xfirst) × (Told B (grid .yfirst) × (Told C (grid .zfirst)
+    → P × (Q × (R × (Told A (grid .xorigin) × (Told B (grid .yorigin) × (Told C (grid .zorigin)
     × (Told D (grid .xstep) × (Told E (grid .ystep) × (Told F (grid .zstep) × Unit {0}))))))))
     → InWords grid
 in-words g =
     let s = g .1 .1 .1 in
     record {
-      xfirst = record { sfits = s .0 .1 };
-      yfirst = record { sfits = s .1 .0 .1 };
-      zfirst = record { sfits = s .1 .1 .0 .1 };
+      xorigin = record { sfits = s .0 .1 };
+      yorigin = record { sfits = s .1 .0 .1 };
+      zorigin = record { sfits = s .1 .1 .0 .1 };
       xstep = record { sfits = s .1 .1 .1 .0 .1 };
       ystep = record { sfits = s .1 .1 .1 .1 .0 .1 };
       zstep = record { sfits = s .1 .1 .1 .1 .1 .0 .1 };

@@ -47,10 +47,10 @@ sizes grid t e =
 pub record Accepted (grid : Grid) (isSolid : Bool) : Type 0 where
   pub sizes : Sizes isSolid grid
   pub kind : isSolid ≡ solid (gridIn grid isSolid)
-  pub x-value : (i : ℕ) → i < grid .width → IsValue (at (grid .xfirst) (grid .xstep) i)
-  pub y-value : (j : ℕ) → j < grid .height → IsValue (at (grid .yfirst) (grid .ystep) j)
-  pub z-value : isSolid ≡ true → (k : ℕ) → k < grid .depth → IsValue (at (grid .zfirst) (grid .zstep) k)
-  pub flat-z : IsValue (grid .zfirst)
+  pub x-value : (i : ℕ) → i < grid .width → IsValue (at (grid .xorigin) (grid .xstep) i)
+  pub y-value : (j : ℕ) → j < grid .height → IsValue (at (grid .yorigin) (grid .ystep) j)
+  pub z-value : isSolid ≡ true → (k : ℕ) → k < grid .depth → IsValue (at (grid .zorigin) (grid .zstep) k)
+  pub flat-z : IsValue (grid .zorigin)
 
 sizes-first : (s a : Bool) → firstOf (when (not s) 10) (when (not a) 11) ≡ 0 → s ≡ true
 sizes-first true a e = refl

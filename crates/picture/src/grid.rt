@@ -10,33 +10,33 @@ const SIZE_LIMIT: u32 = 512;
 
 const TOP: i64 = 2147483647;
 
-// A grid. A flat drawing reads neither depth nor the third step; its one z is zfirst.
+// A grid. A flat drawing reads neither depth nor the third step; its one z is zorigin.
 #[repr(C)]
 pub struct Grid {
     pub width: u32,
     pub height: u32,
     pub depth: u32,
-    pub xfirst: i32,
-    pub yfirst: i32,
-    pub zfirst: i32,
+    pub xorigin: i32,
+    pub yorigin: i32,
+    pub zorigin: i32,
     pub xstep: i32,
     pub ystep: i32,
     pub zstep: i32,
 }
 
 // Sample i of an axis, also one that is no value.
-fn along(first: i32, step: i32, i: u32) -> i64
-    ensures { λ r. ⌜ r ≡ at first step i ⌝ }
+fn along(origin: i32, step: i32, i: u32) -> i64
+    ensures { λ r. ⌜ r ≡ at origin step i ⌝ }
 {
-    first as i64 + i as i64 * step as i64
+    origin as i64 + i as i64 * step as i64
 }
 
 // Sample i of an axis.
-pub fn sample(first: i32, step: i32, i: u32) -> i32
-    requires { ⌜ IsValue (at first step i) ⌝ }
-    ensures { λ r. ⌜ r ≡ at first step i ⌝ }
+pub fn sample(origin: i32, step: i32, i: u32) -> i32
+    requires { ⌜ IsValue (at origin step i) ⌝ }
+    ensures { λ r. ⌜ r ≡ at origin step i ⌝ }
 {
-    along(first, step, i) as i32
+    along(origin, step, i) as i32
 }
 
 fn is_value(z: i64) -> bool
@@ -57,17 +57,17 @@ pub fn size_ok(n: u32) -> bool
     n <= SIZE_LIMIT
 }
 
-fn axis_ok(first: i32, step: i32, n: u32) -> bool
+fn axis_ok(origin: i32, step: i32, n: u32) -> bool
     requires { ⌜ 1 ≤ n ⌝ }
-    ensures { λ r. ⌜ r ≡ axisOk first step n ⌝ }
+    ensures { λ r. ⌜ r ≡ axisOk origin step n ⌝ }
 {
-    if !is_value(first as i64) {
+    if !is_value(origin as i64) {
         return false;
     }
     if step < 1 {
         return false;
     }
-    is_value(along(first, step, n - 1))
+    is_value(along(origin, step, n - 1))
 }
 
 fn sizes_ok(solid: bool, grid: Grid) -> bool
@@ -89,16 +89,16 @@ fn axes_ok(solid: bool, grid: Grid) -> bool
     requires { ⌜ sizesOk solid (gridIn grid solid) ≡ true ⌝ }
     ensures { λ r. ⌜ r ≡ axesOk solid (gridIn grid solid) ⌝ }
 {
-    if !axis_ok(grid.xfirst, grid.xstep, grid.width) {
+    if !axis_ok(grid.xorigin, grid.xstep, grid.width) {
         return false;
     }
-    if !axis_ok(grid.yfirst, grid.ystep, grid.height) {
+    if !axis_ok(grid.yorigin, grid.ystep, grid.height) {
         return false;
     }
     if !solid {
-        return is_value(grid.zfirst as i64);
+        return is_value(grid.zorigin as i64);
     }
-    axis_ok(grid.zfirst, grid.zstep, grid.depth)
+    axis_ok(grid.zorigin, grid.zstep, grid.depth)
 }
 
 // The line of the refusals that a grid meets first, or 0.

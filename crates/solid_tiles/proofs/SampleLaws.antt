@@ -48,18 +48,18 @@ module _ (grid : Grid) (x y z : ℕ) (i : InGrid (grid .depth) grid x y z) where
         let k : suc y * grid .width ≤ grid .height * grid .width = mul-le-mul-right (grid .width) (i .y-in) in
         omega (arith, r .size, i .x-in, mul-comm (grid .width) (grid .height))
 
-    pub x-value : IsValue (at (grid .xfirst) (grid .xstep) x)
+    pub x-value : IsValue (at (grid .xorigin) (grid .xstep) x)
     x-value = accepted grid true e .x-value x (i .x-in)
 
-    pub y-value : IsValue (at (grid .yfirst) (grid .ystep) y)
+    pub y-value : IsValue (at (grid .yorigin) (grid .ystep) y)
     y-value = accepted grid true e .y-value y (i .y-in)
 
-    pub z-value : IsValue (at (grid .zfirst) (grid .zstep) z)
+    pub z-value : IsValue (at (grid .zorigin) (grid .zstep) z)
     z-value = accepted grid true e .z-value refl z (i .z-in)
 
     -- The sample that the code makes.
-    pub sample-same : (s : Sample) → s .x ≡ at (grid .xfirst) (grid .xstep) x → s .y ≡ at (grid .yfirst) (grid .ystep) y
-        → s .z ≡ at (grid .zfirst) (grid .zstep) z → s ≡ sampleAt (gridIn grid true) x y z
+    pub sample-same : (s : Sample) → s .x ≡ at (grid .xorigin) (grid .xstep) x → s .y ≡ at (grid .yorigin) (grid .ystep) y
+        → s .z ≡ at (grid .zorigin) (grid .zstep) z → s ≡ sampleAt (gridIn grid true) x y z
     unfolding sampleAt
     sample-same s hx hy hz = rw (kind true grid e) (samples hx hy hz)
       where

@@ -25,9 +25,9 @@ fn visit_sample(code: &[u64], grid: Grid, x: u32, y: u32, z: u32, picture: &mut 
         return 0;
     }
     let s = Sample {
-        x: sample(grid.xfirst, grid.xstep, x),
-        y: sample(grid.yfirst, grid.ystep, y),
-        z: sample(grid.zfirst, grid.zstep, z),
+        x: sample(grid.xorigin, grid.xstep, x),
+        y: sample(grid.yorigin, grid.ystep, y),
+        z: sample(grid.zorigin, grid.zstep, z),
     };
     let count = code.len() as u64;
     let value = run_values(code, s);

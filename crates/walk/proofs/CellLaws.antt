@@ -63,18 +63,18 @@ module _ {f s : ℤ} (hf : SFits w32 f) (hs : SFits w32 s) where
 -- The samples of a cell's axes are values.
 module _ (isSolid : Bool) (grid : Grid) (c : Cell) (k : CellOk (layersIn isSolid grid) grid c)
     (e : gridFault isSolid (gridIn grid isSolid) ≡ 0) where
-  pub x-span : SpanIn (grid .xfirst) (grid .xstep) (c .x) (c .xend)
+  pub x-span : SpanIn (grid .xorigin) (grid .xstep) (c .x) (c .xend)
   x-span =
       let x = k .xs in
       record { some = x .some; values = λ i l. accepted grid isSolid e .x-value i (omega (arith, x, l)) }
 
-  pub y-span : SpanIn (grid .yfirst) (grid .ystep) (c .y) (c .yend)
+  pub y-span : SpanIn (grid .yorigin) (grid .ystep) (c .y) (c .yend)
   y-span =
       let y = k .ys in
       record { some = y .some; values = λ i l. accepted grid isSolid e .y-value i (omega (arith, y, l)) }
 
 pub z-span : (grid : Grid) (c : Cell) → CellOk (grid .depth) grid c → gridFault true (gridIn grid true) ≡ 0
-    → SpanIn (grid .zfirst) (grid .zstep) (c .z) (c .zend)
+    → SpanIn (grid .zorigin) (grid .zstep) (c .z) (c .zend)
 z-span grid c k e =
     let z = k .zs in
     record { some = z .some; values = λ i l. accepted grid true e .z-value refl i (omega (arith, z, l)) }
@@ -91,10 +91,10 @@ boxes p q r = cc
 span-least : (f s : ℤ) (a : ℕ) {e p : ℕ} → e ≡ p → spanOf f s a e ≡ spanOf f s a p
 span-least f s a h = ap (λ v. range (at f s a) (at f s (v - 1))) h
 
-module _ (grid : Grid) (c : Cell) {xs ys zs : Range} (hx : xs ≡ spanOf (grid .xfirst) (grid .xstep) (c .x) (c .xend))
-    (hy : ys ≡ spanOf (grid .yfirst) (grid .ystep) (c .y) (c .yend)) where
+module _ (grid : Grid) (c : Cell) {xs ys zs : Range} (hx : xs ≡ spanOf (grid .xorigin) (grid .xstep) (c .x) (c .xend))
+    (hy : ys ≡ spanOf (grid .yorigin) (grid .ystep) (c .y) (c .yend)) where
   pub solid-box : CellOk (grid .depth) grid c → gridFault true (gridIn grid true) ≡ 0
-      → zs ≡ spanOf (grid .zfirst) (grid .zstep) (c .z) (c .zend)
+      → zs ≡ spanOf (grid .zorigin) (grid .zstep) (c .z) (c .zend)
       → CellBox true grid c (record { xs = xs; ys = ys; zs = zs })
   unfolding boxOf
   solid-box k e hz =
@@ -102,9 +102,9 @@ module _ (grid : Grid) (c : Cell) {xs ys zs : Range} (hx : xs ≡ spanOf (grid .
       record {
         same = rw (kind true grid e)
             (boxes
-            (hx ∙ span-least (grid .xfirst) (grid .xstep) (c .x) (k .xs .least))
-            (hy ∙ span-least (grid .yfirst) (grid .ystep) (c .y) (k .ys .least))
-            (hz ∙ span-least (grid .zfirst) (grid .zstep) (c .z) past));
+            (hx ∙ span-least (grid .xorigin) (grid .xstep) (c .x) (k .xs .least))
+            (hy ∙ span-least (grid .yorigin) (grid .ystep) (c .y) (k .ys .least))
+            (hz ∙ span-least (grid .zorigin) (grid .zstep) (c .z) past));
         ok = record {
           xs = span-ok (x-span true grid c k e) hx;
           ys = span-ok (y-span true grid c k e) hy;
@@ -112,15 +112,15 @@ module _ (grid : Grid) (c : Cell) {xs ys zs : Range} (hx : xs ≡ spanOf (grid .
         };
       }
 
-  pub flat-box : CellOk 1 grid c → gridFault false (gridIn grid false) ≡ 0 → zs ≡ range (grid .zfirst) (grid .zfirst)
+  pub flat-box : CellOk 1 grid c → gridFault false (gridIn grid false) ≡ 0 → zs ≡ range (grid .zorigin) (grid .zorigin)
       → CellBox false grid c (record { xs = xs; ys = ys; zs = zs })
   unfolding boxOf
   flat-box k e hz =
       let v = accepted grid false e .flat-z in
       record {
         same = boxes
-            (hx ∙ span-least (grid .xfirst) (grid .xstep) (c .x) (k .xs .least))
-            (hy ∙ span-least (grid .yfirst) (grid .ystep) (c .y) (k .ys .least))
+            (hx ∙ span-least (grid .xorigin) (grid .xstep) (c .x) (k .xs .least))
+            (hy ∙ span-least (grid .yorigin) (grid .ystep) (c .y) (k .ys .least))
             hz;
         ok = record {
           xs = span-ok (x-span false grid c k e) hx;

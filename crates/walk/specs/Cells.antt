@@ -57,12 +57,12 @@ pub record CellOf (layers : ℕ) (grid : Grid) (r : Region) (c : Cell) : Type 0 
   pub same : regionIn c ≡ r
 
 -- Samples of an axis from one index to before another: those before the end are values, and the range that they make.
-pub record SpanIn (first step : ℤ) (from end : ℕ) : Type 0 where
+pub record SpanIn (origin step : ℤ) (from end : ℕ) : Type 0 where
   pub some : from < end
-  pub values : (i : ℕ) → i < end → IsValue (at first step i)
+  pub values : (i : ℕ) → i < end → IsValue (at origin step i)
 
 abbrev pub spanOf : ℤ → ℤ → ℕ → ℕ → Range
-spanOf first step from end = range (at first step from) (at first step (end - 1))
+spanOf origin step from end = range (at origin step from) (at origin step (end - 1))
 
 -- The box of a cell: that of its region, with ends that are values.
 pub record CellBox (isSolid : Bool) (grid : Grid) (c : Cell) (b : Box) : Type 0 where

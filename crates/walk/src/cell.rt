@@ -47,13 +47,13 @@ pub fn cell_at(grid: Grid, layers: u32, x: u32, y: u32, z: u32, side: u32) -> Ce
 }
 
 // The samples of an axis from the index `from` to the one before `end`.
-fn span(first: i32, step: i32, from: u32, end: u32) -> Span
-    requires { ⌜ SpanIn first step from end ⌝ }
-    ensures { λ r. ⌜ rangeIn r ≡ spanOf first step from end ⌝ }
+fn span(origin: i32, step: i32, from: u32, end: u32) -> Span
+    requires { ⌜ SpanIn origin step from end ⌝ }
+    ensures { λ r. ⌜ rangeIn r ≡ spanOf origin step from end ⌝ }
 {
     Span {
-        low: sample(first, step, from),
-        high: sample(first, step, end - 1),
+        low: sample(origin, step, from),
+        high: sample(origin, step, end - 1),
     }
 }
 
@@ -64,9 +64,9 @@ pub fn solid_bounds(grid: Grid, c: Cell) -> Bounds
     ensures { λ r. ⌜ CellBox true grid c (boxIn r) ⌝ }
 {
     Bounds {
-        xs: span(grid.xfirst, grid.xstep, c.x, c.xend),
-        ys: span(grid.yfirst, grid.ystep, c.y, c.yend),
-        zs: span(grid.zfirst, grid.zstep, c.z, c.zend),
+        xs: span(grid.xorigin, grid.xstep, c.x, c.xend),
+        ys: span(grid.yorigin, grid.ystep, c.y, c.yend),
+        zs: span(grid.zorigin, grid.zstep, c.z, c.zend),
     }
 }
 
@@ -77,11 +77,11 @@ pub fn flat_bounds(grid: Grid, c: Cell) -> Bounds
     ensures { λ r. ⌜ CellBox false grid c (boxIn r) ⌝ }
 {
     Bounds {
-        xs: span(grid.xfirst, grid.xstep, c.x, c.xend),
-        ys: span(grid.yfirst, grid.ystep, c.y, c.yend),
+        xs: span(grid.xorigin, grid.xstep, c.x, c.xend),
+        ys: span(grid.yorigin, grid.ystep, c.y, c.yend),
         zs: Span {
-            low: grid.zfirst,
-            high: grid.zfirst,
+            low: grid.zorigin,
+            high: grid.zorigin,
         },
     }
 }

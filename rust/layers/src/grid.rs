@@ -14,12 +14,12 @@ impl Grid {
 
     /// A grid for a heightmap: samples from 0 in steps of 1.
     pub const fn solid(width: u32, height: u32, depth: u32) -> Grid {
-        Grid { width, height, depth, xfirst: 0, yfirst: 0, zfirst: 0, xstep: ONE, ystep: ONE, zstep: ONE }
+        Grid { width, height, depth, xorigin: 0, yorigin: 0, zorigin: 0, xstep: ONE, ystep: ONE, zstep: ONE }
     }
 
     /// The same grid with its first samples there, in units of 1/65,536.
     pub const fn origin(self, x: i32, y: i32, z: i32) -> Grid {
-        Grid { xfirst: x, yfirst: y, zfirst: z, ..self }
+        Grid { xorigin: x, yorigin: y, zorigin: z, ..self }
     }
 
     /// The same grid with samples that far apart, in units of 1/65,536.
@@ -36,7 +36,7 @@ mod tests {
     fn each_number_goes_to_its_field() {
         let grid = Grid::solid(1, 2, 3).origin(4, 5, 6).step(7, 8, 9);
         let expected =
-            Grid { width: 1, height: 2, depth: 3, xfirst: 4, yfirst: 5, zfirst: 6, xstep: 7, ystep: 8, zstep: 9 };
+            Grid { width: 1, height: 2, depth: 3, xorigin: 4, yorigin: 5, zorigin: 6, xstep: 7, ystep: 8, zstep: 9 };
         assert_eq!(grid, expected);
     }
 

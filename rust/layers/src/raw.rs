@@ -26,19 +26,19 @@ pub struct Listed {
     pub slots: u8,
 }
 
-/// Where the samples of a picture are: sample i on an axis is first + i · step, in units of 1/65,536.
+/// Where the samples of a picture are: sample i on an axis is origin + i · step, in units of 1/65,536.
 ///
-/// A flat drawing reads neither `depth` nor `zstep`; its one z is `zfirst`.
+/// A flat drawing reads neither `depth` nor `zstep`; its one z is `zorigin`.
 ///
 /// ```
 /// use layers::{fixed, Grid};
 ///
 /// // 100 by 80 samples, a quarter apart, the first at (−12.5, −10), at the height 3
 /// let grid = Grid::flat(100, 80).step(fixed(0.25), fixed(0.25), 1).origin(fixed(-12.5), fixed(-10.0), fixed(3.0));
-/// assert_eq!((grid.width, grid.xfirst, grid.xstep, grid.zfirst), (100, -819_200, 16_384, 196_608));
+/// assert_eq!((grid.width, grid.xorigin, grid.xstep, grid.zorigin), (100, -819_200, 16_384, 196_608));
 ///
-/// let next = Grid { zfirst: fixed(3.25), ..grid };
-/// assert_eq!(next.xfirst, grid.xfirst);
+/// let next = Grid { zorigin: fixed(3.25), ..grid };
+/// assert_eq!(next.xorigin, grid.xorigin);
 /// ```
 #[repr(C)]
 #[derive(Clone, Copy, Debug, PartialEq, Eq, Hash)]
@@ -50,11 +50,11 @@ pub struct Grid {
     /// The number of samples along z.
     pub depth: u32,
     /// x of the first column.
-    pub xfirst: i32,
+    pub xorigin: i32,
     /// y of the first row.
-    pub yfirst: i32,
+    pub yorigin: i32,
     /// z of the lowest sample, or of all samples of a flat drawing.
-    pub zfirst: i32,
+    pub zorigin: i32,
     /// The distance between columns.
     pub xstep: i32,
     /// The distance between rows.

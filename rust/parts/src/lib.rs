@@ -33,7 +33,7 @@ pub struct Design {
 impl Design {
     pub fn part(&self) -> Part {
         let tape = self.compiled(MAX_SLOTS).unwrap_or_else(|e| panic!("{}: {e:?}", self.name));
-        let flat = Grid { depth: 0, zfirst: nearest(self.z), zstep: 0, ..self.grid(512) };
+        let flat = Grid { depth: 0, zorigin: nearest(self.z), zstep: 0, ..self.grid(512) };
         Part { name: self.name, tape, flat, solid: self.grid(128) }
     }
 
@@ -59,9 +59,9 @@ fn cut(low: [i32; 3], sizes: [i32; 3], n: u32) -> Grid {
         width: n,
         height: n,
         depth: n,
-        xfirst: low[0] + xstep / 2,
-        yfirst: low[1] + ystep / 2,
-        zfirst: low[2] + zstep / 2,
+        xorigin: low[0] + xstep / 2,
+        yorigin: low[1] + ystep / 2,
+        zorigin: low[2] + zstep / 2,
         xstep,
         ystep,
         zstep,
@@ -82,7 +82,7 @@ impl Part {
     /// The solid grid's box, cut into n samples along each axis (n up to 512).
     pub fn solid_at(&self, n: u32) -> Grid {
         let g = self.solid;
-        let low = [g.xfirst - g.xstep / 2, g.yfirst - g.ystep / 2, g.zfirst - g.zstep / 2];
+        let low = [g.xorigin - g.xstep / 2, g.yorigin - g.ystep / 2, g.zorigin - g.zstep / 2];
         let sizes = [g.xstep * g.width as i32, g.ystep * g.height as i32, g.zstep * g.depth as i32];
         cut(low, sizes, n)
     }
@@ -94,7 +94,7 @@ fn input(grid: Grid, tape: &Tape) -> Vec<u8> {
     for size in [grid.width, grid.height, grid.depth] {
         bytes.extend((size as u16).to_le_bytes());
     }
-    for number in [grid.xfirst, grid.yfirst, grid.zfirst, grid.xstep, grid.ystep, grid.zstep] {
+    for number in [grid.xorigin, grid.yorigin, grid.zorigin, grid.xstep, grid.ystep, grid.zstep] {
         bytes.extend(number.to_le_bytes());
     }
     bytes.extend(tape.as_bytes());

@@ -67,9 +67,9 @@ impl Walk<'_> {
     fn bounds(&self, region: Region) -> [Span; 3] {
         let grid = &self.grid;
         [
-            axis(grid.xfirst, grid.xstep, region.x, region.xend),
-            axis(grid.yfirst, grid.ystep, region.y, region.yend),
-            Span::new(grid.zfirst, grid.zfirst),
+            axis(grid.xorigin, grid.xstep, region.x, region.xend),
+            axis(grid.yorigin, grid.ystep, region.y, region.yend),
+            Span::new(grid.zorigin, grid.zorigin),
         ]
     }
 
@@ -79,7 +79,7 @@ impl Walk<'_> {
         for y in region.y..region.yend {
             let mut byte = 0;
             for x in region.x..region.xend {
-                let at = [sample(grid.xfirst, grid.xstep, x), sample(grid.yfirst, grid.ystep, y), grid.zfirst];
+                let at = [sample(grid.xorigin, grid.xstep, x), sample(grid.yorigin, grid.ystep, y), grid.zorigin];
                 if run_values(code, at, &mut self.values) < 0 {
                     byte |= 0x80 >> (x - region.x);
                 }

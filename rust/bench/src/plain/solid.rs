@@ -77,9 +77,9 @@ impl Walk<'_> {
     fn bounds(&self, region: Region) -> [Span; 3] {
         let grid = &self.grid;
         [
-            axis(grid.xfirst, grid.xstep, region.x, region.xend),
-            axis(grid.yfirst, grid.ystep, region.y, region.yend),
-            axis(grid.zfirst, grid.zstep, region.z, region.zend),
+            axis(grid.xorigin, grid.xstep, region.x, region.xend),
+            axis(grid.yorigin, grid.ystep, region.y, region.yend),
+            axis(grid.zorigin, grid.zstep, region.z, region.zend),
         ]
     }
 
@@ -96,9 +96,9 @@ impl Walk<'_> {
                         continue;
                     }
                     let at = [
-                        sample(grid.xfirst, grid.xstep, x),
-                        sample(grid.yfirst, grid.ystep, y),
-                        sample(grid.zfirst, grid.zstep, z),
+                        sample(grid.xorigin, grid.xstep, x),
+                        sample(grid.yorigin, grid.ystep, y),
+                        sample(grid.zorigin, grid.zstep, z),
                     ];
                     self.count += code.len() as u64;
                     if run_values(code, at, &mut self.values) < 0 {

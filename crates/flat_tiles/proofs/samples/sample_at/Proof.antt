@@ -22,14 +22,14 @@ sample-requires c κs =
     let t = c .before in
     let p = t .before .pre in
     let f = told t in
-    axis-asked _ _ _ (f .xfirst) (f .xstep) (accepted (t .before .args .grid) false (p .0) .x-value _ (p .1 .x-in))
+    axis-asked _ _ _ (f .xorigin) (f .xstep) (accepted (t .before .args .grid) false (p .0) .x-value _ (p .1 .x-in))
 
 sample-requires-2 : tie.Need-sample-requires-2
 sample-requires-2 c κs =
     let t = with-x (c .before .before) in
     let p = t .before .pre in
     let f = told t in
-    axis-asked _ _ _ (f .yfirst) (f .ystep) (accepted (t .before .args .grid) false (p .0) .y-value _ (p .1 .y-in))
+    axis-asked _ _ _ (f .yorigin) (f .ystep) (accepted (t .before .args .grid) false (p .0) .y-value _ (p .1 .y-in))
 
 returns : tie.Need-returns
 returns c =
@@ -38,9 +38,9 @@ returns c =
     let t = with-x u in
     let s = t .before in
     let f = told t in
-    let ex = axis-answer _ _ _ _ (f .xfirst) (f .xstep) (u .sample .ok) (u .sample .ensures) in
-    let ey = axis-answer _ _ _ _ (f .yfirst) (f .ystep) (v .sample2 .ok) (v .sample2 .ensures) in
-    let ez = toZ-ofZ (f .zfirst) in
+    let ex = axis-answer _ _ _ _ (f .xorigin) (f .xstep) (u .sample .ok) (u .sample .ensures) in
+    let ey = axis-answer _ _ _ _ (f .yorigin) (f .ystep) (v .sample2 .ok) (v .sample2 .ensures) in
+    let ez = toZ-ofZ (f .zorigin) in
     (sample-is (s .args .grid) _ _ ex ey ez, sample-ok (s .args .grid) _ _ ex ey ez (s .pre .0) (s .pre .1))
 
 pub sample-at-spec : {M : Type 1} → statement M

@@ -40,10 +40,10 @@ grid-ok : (c : tie.Start Inv-loop μ-loop) → Accepted (c .args .grid) false
 grid-ok c = accepted (c .args .grid) false (c .pre .0 .accepted)
 
 z-is : (c : tie.After-struct-told Inv-loop μ-loop)
-    → let g = c .before .before .before .before .before .before .args .grid in read w32 (g .zfirst) ≡ g .zfirst
+    → let g = c .before .before .before .before .before .before .args .grid in read w32 (g .zorigin) ≡ g .zorigin
 z-is c =
     let t : InWords (c .before .before .before .before .before .before .args .grid) = in-words (c .struct-told .given) in
-    toZ-ofZ (t .zfirst)
+    toZ-ofZ (t .zorigin)
 
 has-material-requires : tie.Need-has-material-requires Inv-loop μ-loop
 has-material-requires c κs =

@@ -27,17 +27,17 @@ told c = in-words (c .struct-told .given)
 
 x-is : (c : tie.After-sample)
     → let a = c .before .before .before .before .args in
-    read w32 (c .sample .result) ≡ at (a .grid .xfirst) (a .grid .xstep) (a .i)
+    read w32 (c .sample .result) ≡ at (a .grid .xorigin) (a .grid .xstep) (a .i)
 x-is c =
     let t = told (c .before .before) in
-    back w32 (c .sample .result) (c .sample .ok) (c .sample .ensures ∙ at-read _ _ _ (t .xfirst) (t .xstep))
+    back w32 (c .sample .result) (c .sample .ok) (c .sample .ensures ∙ at-read _ _ _ (t .xorigin) (t .xstep))
 
 y-is : (c : tie.After-sample2)
     → let a = c .before .before .before .before .before .before .before .args in
-    read w32 (c .sample2 .result) ≡ at (a .grid .yfirst) (a .grid .ystep) (a .j)
+    read w32 (c .sample2 .result) ≡ at (a .grid .yorigin) (a .grid .ystep) (a .j)
 y-is c =
     let t = told (c .before .before .before .before .before) in
-    back w32 (c .sample2 .result) (c .sample2 .ok) (c .sample2 .ensures ∙ at-read _ _ _ (t .yfirst) (t .ystep))
+    back w32 (c .sample2 .result) (c .sample2 .ok) (c .sample2 .ensures ∙ at-read _ _ _ (t .yorigin) (t .ystep))
 
 abbrev ran : (c : tie.After-sample2) → Sample
 ran c =

@@ -44,9 +44,9 @@ told c = in-words (c .struct-told .given)
 
 value-at : (c : tie.After-struct-told Inv-loop μ-loop) (k : ℕ)
     → let g = start (at-loop (c .before)) .args .grid in
-    k < g .depth → IsValue (at (read w32 (g .zfirst)) (read w32 (g .zstep)) k)
+    k < g .depth → IsValue (at (read w32 (g .zorigin)) (read w32 (g .zstep)) k)
 value-at c k l =
-    subst IsValue (sym (at-read _ _ _ (told c .zfirst) (told c .zstep)))
+    subst IsValue (sym (at-read _ _ _ (told c .zorigin) (told c .zstep)))
     (grid-ok (start (at-loop (c .before))) .z-value refl k l)
 
 loop-holds : tie.Need-loop-holds Inv-loop μ-loop
@@ -61,10 +61,10 @@ add-above c = omega (arith, body c .if1 .taken, grid-ok (start (at-loop (body c)
 z-is : (c : tie.After-sample Inv-loop μ-loop)
     → let l = at-loop (body c) in
     let g = start l .args .grid in
-    read w32 (c .sample .result) ≡ at (g .zfirst) (g .zstep) (l .loop .k)
+    read w32 (c .sample .result) ≡ at (g .zorigin) (g .zstep) (l .loop .k)
 z-is c =
     let t = told (c .before .before) in
-    back w32 (c .sample .result) (c .sample .ok) (c .sample .ensures ∙ at-read _ _ _ (t .zfirst) (t .zstep))
+    back w32 (c .sample .result) (c .sample .ok) (c .sample .ensures ∙ at-read _ _ _ (t .zorigin) (t .zstep))
 
 has-material-requires : tie.Need-has-material-requires Inv-loop μ-loop
 has-material-requires c κs =

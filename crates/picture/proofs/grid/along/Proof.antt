@@ -6,7 +6,7 @@ use Rattle.picture.proofs.grid.along.Statement.{statement}
 use Rattle.picture.proofs.grid.along.Tie as tie
 
 cast-result : tie.Need-cast-result
-cast-result c = read-fits (c .fits .first)
+cast-result c = read-fits (c .fits .origin)
 
 cast-result-2 : tie.Need-cast-result-2
 cast-result-2 c = search needs
@@ -15,13 +15,13 @@ cast-result-3 : tie.Need-cast-result-3
 cast-result-3 c = read-fits (c .fits .step)
 
 mul-result : tie.Need-mul-result
-mul-result c = product-fits (c .args .first) (c .args .step) (c .args .i) (c .fits .first) (c .fits .step) (c .fits .i)
+mul-result c = product-fits (c .args .origin) (c .args .step) (c .args .i) (c .fits .origin) (c .fits .step) (c .fits .i)
 
 add-result : tie.Need-add-result
-add-result c = sample-fits (c .args .first) (c .args .step) (c .args .i) (c .fits .first) (c .fits .step) (c .fits .i)
+add-result c = sample-fits (c .args .origin) (c .args .step) (c .args .i) (c .fits .origin) (c .fits .step) (c .fits .i)
 
 returns : tie.Need-returns
-returns c = sample-is (c .args .first) (c .args .step) (c .args .i) (c .fits .first) (c .fits .step) (c .fits .i)
+returns c = sample-is (c .args .origin) (c .args .step) (c .args .i) (c .fits .origin) (c .fits .step) (c .fits .i)
 
 pub along-spec : {M : Type 1} → statement M
 along-spec =

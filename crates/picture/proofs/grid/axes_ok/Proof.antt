@@ -46,25 +46,25 @@ abbrev at-struct-told7 : tie.After-axis-ok3 → tie.After-struct-told7
 at-struct-told7 c = c .before
 
 x-tested : (c : tie.After-axis-ok)
-    → let g = at-start (at-struct-told c) .args .grid in c .axis-ok .result ≡ axisOk (g .xfirst) (g .xstep) (g .width)
+    → let g = at-start (at-struct-told c) .args .grid in c .axis-ok .result ≡ axisOk (g .xorigin) (g .xstep) (g .width)
 x-tested c =
     let f = told (c .before .before) in
-    c .axis-ok .ensures ∙ axis-read _ _ _ (f .xfirst) (f .xstep)
+    c .axis-ok .ensures ∙ axis-read _ _ _ (f .xorigin) (f .xstep)
 
 x-ok : (c : tie.Else1)
-    → let g = at-start (at-struct-told (c .before)) .args .grid in axisOk (g .xfirst) (g .xstep) (g .width) ≡ true
+    → let g = at-start (at-struct-told (c .before)) .args .grid in axisOk (g .xorigin) (g .xstep) (g .width) ≡ true
 x-ok c = passed _ (x-tested (c .before)) (c .if1 .left)
 
 y-tested : (c : tie.After-axis-ok2)
     → let g = at-start (at-struct-told (at-else1 (at-struct-told4 c) .before)) .args .grid in
-    c .axis-ok2 .result ≡ axisOk (g .yfirst) (g .ystep) (g .height)
+    c .axis-ok2 .result ≡ axisOk (g .yorigin) (g .ystep) (g .height)
 y-tested c =
     let f = told (at-struct-told (at-else1 (at-struct-told4 c) .before)) in
-    c .axis-ok2 .ensures ∙ axis-read _ _ _ (f .yfirst) (f .ystep)
+    c .axis-ok2 .ensures ∙ axis-read _ _ _ (f .yorigin) (f .ystep)
 
 y-ok : (c : tie.Else2)
     → let g = at-start (at-struct-told (at-else1 (at-struct-told4 (c .before)) .before)) .args .grid in
-    axisOk (g .yfirst) (g .ystep) (g .height) ≡ true
+    axisOk (g .yorigin) (g .ystep) (g .height) ≡ true
 y-ok c = passed _ (y-tested (c .before)) (c .if2 .left)
 
 axis-ok-requires : tie.Need-axis-ok-requires
@@ -82,7 +82,7 @@ returns-2 c =
 
 cast-is-value : tie.Need-cast-is-value
 cast-is-value c =
-    read-fits (told (at-struct-told (at-else1 (at-struct-told4 (at-then3 c .before .before)) .before)) .zfirst)
+    read-fits (told (at-struct-told (at-else1 (at-struct-told4 (at-then3 c .before .before)) .before)) .zorigin)
 
 is-value-requires : tie.Need-is-value-requires
 is-value-requires c κs = search needs
@@ -95,7 +95,7 @@ returns-3 c =
     goes-on (x-ok first)
     (goes-on (y-ok second)
     (flat-axis (at-start (at-struct-told (first .before)) .args .solid) _ (at-then3 (at-struct-told5 c) .if3 .taken)
-    (c .is-value .ensures ∙ ap reaches (read-wide (t .zfirst)))))
+    (c .is-value .ensures ∙ ap reaches (read-wide (t .zorigin)))))
 
 axis-ok-requires-3 : tie.Need-axis-ok-requires-3
 axis-ok-requires-3 c κs =
@@ -110,8 +110,8 @@ returns-4 c =
     let a = at-start (at-struct-told (first .before)) .args in
     goes-on (x-ok first)
     (goes-on (y-ok second)
-    (solid-axis (a .solid) (a .grid .zfirst) (a .grid .zstep) (a .grid .depth) _ (at-else3 (at-struct-told7 c) .if3 .left)
-    (c .axis-ok3 .ensures ∙ axis-read _ _ _ (t .zfirst) (t .zstep))))
+    (solid-axis (a .solid) (a .grid .zorigin) (a .grid .zstep) (a .grid .depth) _ (at-else3 (at-struct-told7 c) .if3 .left)
+    (c .axis-ok3 .ensures ∙ axis-read _ _ _ (t .zorigin) (t .zstep))))
 
 pub axes-ok-spec : {M : Type 1} → statement M
 axes-ok-spec =

@@ -16,16 +16,16 @@ use Rattle.picture.proofs.grid.axis_ok.Statement.{statement}
 use Rattle.picture.proofs.grid.axis_ok.Tie as tie
 
 cast-is-value : tie.Need-cast-is-value
-cast-is-value c = read-fits (c .fits .first)
+cast-is-value c = read-fits (c .fits .origin)
 
 is-value-requires : tie.Need-is-value-requires
 is-value-requires c κs = search needs
 
 -- What the two tests say of the numbers themselves.
-first-tested : (c : tie.After-is-value) → c .is-value .result ≡ reaches (c .before .args .first)
-first-tested c = c .is-value .ensures ∙ ap reaches (read-wide (c .before .fits .first))
+first-tested : (c : tie.After-is-value) → c .is-value .result ≡ reaches (c .before .args .origin)
+first-tested c = c .is-value .ensures ∙ ap reaches (read-wide (c .before .fits .origin))
 
-first-ok : (c : tie.Else1) → reaches (c .before .before .args .first) ≡ true
+first-ok : (c : tie.Else1) → reaches (c .before .before .args .origin) ≡ true
 first-ok c = passed _ (first-tested (c .before)) (c .if1 .left)
 
 step-tested : (c : tie.Else1) (t : Bool) → ltZ (read w32 (c .before .before .args .step)) (pos 1) ≡ t
@@ -56,7 +56,7 @@ returns-3 c =
     let f = first .before .before .fits in
     let l = step-tested first false (c .before .before .if2 .left) in
     let r = c .before .along in
-    let last = back w64 (r .result) (r .ok) (r .ensures ∙ at-read (a .first) (a .step) (a .n - 1) (f .first) (f .step)) in
+    let last = back w64 (r .result) (r .ok) (r .ensures ∙ at-read (a .origin) (a .step) (a .n - 1) (f .origin) (f .step)) in
     goes-on (first-ok first)
     (goes-on (step (a .step) l)
     (goes-on (step-value (a .step) (f .step) l) (c .is-value2 .ensures ∙ ap reaches last)))

@@ -14,12 +14,12 @@ along-requires c κs = search needs
 
 -- What the wide sample is, as it is read.
 sampled : (c : tie.After-along)
-    → read w64 (c .along .result) ≡ at (c .before .args .first) (c .before .args .step) (c .before .args .i)
+    → read w64 (c .along .result) ≡ at (c .before .args .origin) (c .before .args .step) (c .before .args .i)
 sampled c =
     let a = c .before .args in
     let f = c .before .fits in
     back w64 (c .along .result) (c .along .ok)
-    (c .along .ensures ∙ at-read (a .first) (a .step) (a .i) (f .first) (f .step))
+    (c .along .ensures ∙ at-read (a .origin) (a .step) (a .i) (f .origin) (f .step))
 
 cast-result : tie.Need-cast-result
 cast-result c = rw (sampled c) (value-fits _ (c .before .pre))

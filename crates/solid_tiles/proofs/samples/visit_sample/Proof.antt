@@ -63,9 +63,9 @@ made c =
     let v = y .sample2 in
     let w = c .sample3 in
     sample-same _ _ _ _ (s .pre .1 .1) (s .pre .1 .0 .fault) _
-    (back w32 _ (u .ok) (u .ensures ∙ at-words _ (f .xfirst) (f .xstep)))
-    (back w32 _ (v .ok) (v .ensures ∙ at-words _ (f .yfirst) (f .ystep)))
-    (back w32 _ (w .ok) (w .ensures ∙ at-words _ (f .zfirst) (f .zstep)))
+    (back w32 _ (u .ok) (u .ensures ∙ at-words _ (f .xorigin) (f .xstep)))
+    (back w32 _ (v .ok) (v .ensures ∙ at-words _ (f .yorigin) (f .ystep)))
+    (back w32 _ (w .ok) (w .ensures ∙ at-words _ (f .zorigin) (f .zstep)))
 
 -- Not hidden: the height is below the sample's.
 low : (c : tie.After-sample3)
@@ -105,20 +105,20 @@ sample-requires : tie.Need-sample-requires
 sample-requires c κs =
     let t = c .before in
     let f = told t in
-    rw (at-words _ (f .xfirst) (f .xstep)) (x-value _ _ _ _ (seen t .pre .1 .1) (seen t .pre .1 .0 .fault))
+    rw (at-words _ (f .xorigin) (f .xstep)) (x-value _ _ _ _ (seen t .pre .1 .1) (seen t .pre .1 .0 .fault))
 
 sample-requires-2 : tie.Need-sample-requires-2
 sample-requires-2 c κs =
     let t = to-y c in
     let f = told t in
-    rw (at-words _ (f .yfirst) (f .ystep)) (y-value _ _ _ _ (seen t .pre .1 .1) (seen t .pre .1 .0 .fault))
+    rw (at-words _ (f .yorigin) (f .ystep)) (y-value _ _ _ _ (seen t .pre .1 .1) (seen t .pre .1 .0 .fault))
 
 sample-requires-3 : tie.Need-sample-requires-3
 sample-requires-3 c κs =
     let t = to-z c in
     let f = told t in
     let p = seen t .pre .1 in
-    rw (at-words _ (f .zfirst) (f .zstep)) (z-value _ _ _ _ (p .1) (p .0 .fault))
+    rw (at-words _ (f .zorigin) (f .zstep)) (z-value _ _ _ _ (p .1) (p .0 .fault))
 
 run-values-requires : tie.Need-run-values-requires
 run-values-requires c κs =

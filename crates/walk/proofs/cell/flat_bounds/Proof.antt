@@ -19,14 +19,14 @@ span-requires : tie.Need-span-requires
 span-requires c κs =
     let f = told (c .before) in
     let p = c .before .before .pre in
-    span-words (f .xfirst) (f .xstep) (x-span false _ _ (p .1) (p .0))
+    span-words (f .xorigin) (f .xstep) (x-span false _ _ (p .1) (p .0))
 
 span-requires-2 : tie.Need-span-requires-2
 span-requires-2 c κs =
     let t = with-x (c .before .before) in
     let f = told t in
     let p = t .before .pre in
-    span-words (f .yfirst) (f .ystep) (y-span false _ _ (p .1) (p .0))
+    span-words (f .yorigin) (f .ystep) (y-span false _ _ (p .1) (p .0))
 
 returns : tie.Need-returns
 returns c =
@@ -35,10 +35,10 @@ returns c =
     let t = with-x after-x in
     let f = told t in
     let p = t .before .pre in
-    let z = toZ-ofZ (f .zfirst) in
+    let z = toZ-ofZ (f .zorigin) in
     flat-box _ _
-    (span-read (f .xfirst) (f .xstep) _ _ (after-x .span .ensures))
-    (span-read (f .yfirst) (f .ystep) _ _ (after-y .span2 .ensures))
+    (span-read (f .xorigin) (f .xstep) _ _ (after-x .span .ensures))
+    (span-read (f .yorigin) (f .ystep) _ _ (after-y .span2 .ensures))
     (p .1) (p .0) (both range z z)
 
 pub flat-bounds-spec : {M : Type 1} → statement M
