@@ -22,12 +22,16 @@ abbrev μ-loop : tie.MeasureT-loop
 grid-ok : (c : tie.Start Inv-loop μ-loop) → Accepted (c .args .grid) false
 grid-ok c = accepted (c .args .grid) false (c .pre .0 .accepted)
 
+-- The places that facts are taken at, each from the next one behind it.
+abbrev at-start : tie.At-loop Inv-loop μ-loop → tie.Start Inv-loop μ-loop
+at-start c = c .before .before .before
+
 -- The byte's first pixel is one of the row's.
 pixel-in : (c : tie.In-loop Inv-loop μ-loop)
-    → (8 * c .before .loop .c < c .before .before .before .before .args .grid .width)
-    × (c .before .before .before .before .args .grid .width ≤ 512)
+    → (8 * c .before .loop .c < at-start (c .before) .args .grid .width)
+    × (at-start (c .before) .args .grid .width ≤ 512)
 pixel-in c =
-    let b = c .before .before .before .before in
+    let b = at-start (c .before) in
     (omega (arith, c .loop-test .taken, b .pre .1 .0), grid-ok b .sizes .width .most)
 
 loop-holds : tie.Need-loop-holds Inv-loop μ-loop
@@ -41,7 +45,7 @@ cast-row-byte c = omega (arith, pixel-in c)
 
 row-byte-requires : tie.Need-row-byte-requires Inv-loop μ-loop
 row-byte-requires c κs =
-    let b = c .before .before .before .before in
+    let b = at-start (c .before) in
     (b .pre .0, (pixel-in c .0, b .pre .1 .1))
 
 add-picture : tie.Need-add-picture Inv-loop μ-loop
@@ -60,7 +64,7 @@ loop-again : tie.Need-loop-again Inv-loop μ-loop
 loop-again c =
     let t = c .before in
     let l = t .before in
-    let b = l .before .before .before in
+    let b = at-start l in
     let a = b .args in
     next-byte (now (a .code)) (gridIn (a .grid) false) (a .j) (a .from) (now (a .picture)) (l .loop .picture) (l .loop .c)
     (l .loop .inv) (c .row-byte .result) (c .row-byte .ensures) (omega (arith, t .loop-test .taken, b .pre .1 .0)) (search needs)
@@ -71,7 +75,7 @@ same-length c = search needs
 returns : tie.Need-returns Inv-loop μ-loop
 returns c =
     let l = c .before in
-    let b = l .before .before .before in
+    let b = at-start l in
     let a = b .args in
     rw (b .pre .1 .0) (bytes-put (now (a .code)) (gridIn (a .grid) false) (a .j) (a .from) (now (a .picture)) (l .loop .picture)
     (l .loop .c) (l .loop .inv) (omega (arith, c .loop-test .left, b .pre .1 .0)))

@@ -39,16 +39,29 @@ add-has-material c = search needs
 grid-ok : (c : tie.Start Inv-loop μ-loop) → Accepted (c .args .grid) false
 grid-ok c = accepted (c .args .grid) false (c .pre .0 .accepted)
 
+-- The places that facts are taken at, each from the next one behind it.
+abbrev at-start : tie.At-loop Inv-loop μ-loop → tie.Start Inv-loop μ-loop
+at-start c = c .before .before .before .before
+
+abbrev in-loop : tie.After-struct-told Inv-loop μ-loop → tie.In-loop Inv-loop μ-loop
+in-loop c = c .before
+
+abbrev at-struct-told : tie.After-has-material Inv-loop μ-loop → tie.After-struct-told Inv-loop μ-loop
+at-struct-told c = c .before
+
+abbrev at-has-material : tie.After-with-pixel Inv-loop μ-loop → tie.After-has-material Inv-loop μ-loop
+at-has-material c = c .before
+
 z-is : (c : tie.After-struct-told Inv-loop μ-loop)
-    → let g = c .before .before .before .before .before .before .args .grid in read w32 (g .zorigin) ≡ g .zorigin
+    → let g = at-start (in-loop c .before) .args .grid in read w32 (g .zorigin) ≡ g .zorigin
 z-is c =
-    let t : InWords (c .before .before .before .before .before .before .args .grid) = in-words (c .struct-told .given) in
+    let t : InWords (at-start (in-loop c .before) .args .grid) = in-words (c .struct-told .given) in
     toZ-ofZ (t .zorigin)
 
 has-material-requires : tie.Need-has-material-requires Inv-loop μ-loop
 has-material-requires c κs =
     let l = c .before .before in
-    let b = l .before .before .before .before in
+    let b = at-start l in
     let a = b .args in
     let i = a .i + l .loop .k in (
       b .pre .0 .runnable,
@@ -58,12 +71,12 @@ has-material-requires c κs =
 
 -- What the call says of the pixel's sample.
 said : (c : tie.After-has-material Inv-loop μ-loop)
-    → let l = c .before .before .before in
-    let a = l .before .before .before .before .args in
+    → let l = in-loop (at-struct-told c) .before in
+    let a = at-start l .args in
     Says (now (a .code)) (sampleAt (gridIn (a .grid) false) (a .i + l .loop .k) (a .j) 0) (c .has-material .result)
 said c =
-    let l = c .before .before .before in
-    let a = l .before .before .before .before .args in
+    let l = in-loop (at-struct-told c) .before in
+    let a = at-start l .args in
     let i = a .i + l .loop .k in
     subst (λ s. Says (now (a .code)) s (c .has-material .result))
     (ap (sampleIn (a .grid) i (a .j)) (z-is (c .before)) ∙ flat-sample (a .grid) i (a .j)) (c .has-material .ensures)
@@ -79,16 +92,16 @@ loop-less c = search needs
 
 loop-again : tie.Need-loop-again Inv-loop μ-loop
 loop-again c =
-    let t = c .before .before .before in
+    let t = in-loop (at-struct-told (at-has-material c)) in
     let l = t .before in
-    let a = l .before .before .before .before .args in
+    let a = at-start l .args in
     next-pixels (now (a .code)) (gridIn (a .grid) false) (a .i) (a .j) _ (l .loop .byte) (l .loop .k) (c .with-pixel .result)
     (c .before .has-material .result) (t .loop-test .taken) (l .loop .inv) (said (c .before)) (c .with-pixel .ensures)
 
 returns : tie.Need-returns Inv-loop μ-loop
 returns c =
     let l = c .before in
-    let a = l .before .before .before .before .args in
+    let a = at-start l .args in
     done-pixels (now (a .code)) (gridIn (a .grid) false) (a .i) (a .j) _ (l .loop .byte) (l .loop .k) refl
     (l .before .at-most-8 .ensures) (c .loop-test .left) (l .loop .inv)
 

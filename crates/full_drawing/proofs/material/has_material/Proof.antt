@@ -25,42 +25,55 @@ sample-requires-2 c κs = search needs
 told : (c : tie.After-struct-told) → InWords (c .before .before .args .grid)
 told c = in-words (c .struct-told .given)
 
+-- The places that facts are taken at, each from the next one behind it.
+abbrev at-start : tie.After-struct-told → tie.Start
+at-start c = c .before .before
+
+abbrev at-struct-told : tie.After-sample → tie.After-struct-told
+at-struct-told c = c .before .before
+
+abbrev at-sample : tie.After-sample2 → tie.After-sample
+at-sample c = c .before .before .before
+
+abbrev at-sample2 : tie.After-run-values → tie.After-sample2
+at-sample2 c = c .before
+
 x-is : (c : tie.After-sample)
-    → let a = c .before .before .before .before .args in
+    → let a = at-start (at-struct-told c) .args in
     read w32 (c .sample .result) ≡ at (a .grid .xorigin) (a .grid .xstep) (a .i)
 x-is c =
     let t = told (c .before .before) in
     back w32 (c .sample .result) (c .sample .ok) (c .sample .ensures ∙ at-read _ _ _ (t .xorigin) (t .xstep))
 
 y-is : (c : tie.After-sample2)
-    → let a = c .before .before .before .before .before .before .before .args in
+    → let a = at-start (at-struct-told (at-sample c)) .args in
     read w32 (c .sample2 .result) ≡ at (a .grid .yorigin) (a .grid .ystep) (a .j)
 y-is c =
-    let t = told (c .before .before .before .before .before) in
+    let t = told (at-struct-told (at-sample c)) in
     back w32 (c .sample2 .result) (c .sample2 .ok) (c .sample2 .ensures ∙ at-read _ _ _ (t .yorigin) (t .ystep))
 
 abbrev ran : (c : tie.After-sample2) → Sample
 ran c =
     record {
-      x = read w32 (c .before .before .before .sample .result);
+      x = read w32 (at-sample c .sample .result);
       y = read w32 (c .sample2 .result);
-      z = read w32 (c .before .before .before .before .before .before .before .args .z);
+      z = read w32 (at-start (at-struct-told (at-sample c)) .args .z);
     }
 
 sample-is : (c : tie.After-sample2)
-    → let a = c .before .before .before .before .before .before .before .args in
+    → let a = at-start (at-struct-told (at-sample c)) .args in
     ran c ≡ sampleIn (a .grid) (a .i) (a .j) (a .z)
 sample-is c =
-    same-sample (x-is (c .before .before .before)) (y-is c) (toZ-ofZ (c .before .before .before .before .before .before .before .fits .z))
+    same-sample (x-is (at-sample c)) (y-is c) (toZ-ofZ (at-start (at-struct-told (at-sample c)) .fits .z))
 
 run-values-requires : tie.Need-run-values-requires
 run-values-requires c κs =
-    let s = c .before .before .before .before .before .before .before in
+    let s = at-start (at-struct-told (at-sample c)) in
     (s .pre .0, subst SampleOk (sym (sample-is c)) (s .pre .1))
 
 returns : tie.Need-returns
 returns c =
-    let a = c .before .before .before .before .before .before .before .before .args in
+    let a = at-start (at-struct-told (at-sample (at-sample2 c))) .args in
     record {
       material = λ n f.
           says (tapeIn n (now (a .code))) (toZ-ofZ {w = w32} {z = c .run-values .result} (record { sfits = c .run-values .ok }))

@@ -28,13 +28,32 @@ grid-ok c = accepted (c .args .grid) true (c .pre .0 .accepted)
 loop-holds : tie.Need-loop-holds Inv-loop μ-loop
 loop-holds c = start-along _ _ _ _ _ _ _ refl
 
+-- The places that facts are taken at, each from the next one behind it.
+abbrev at-start : tie.At-loop Inv-loop μ-loop → tie.Start Inv-loop μ-loop
+at-start c = c .before .before .before
+
+abbrev at-loop-from-then1 : tie.Then1 Inv-loop μ-loop → tie.At-loop Inv-loop μ-loop
+at-loop-from-then1 c = c .before .before
+
+abbrev at-loop-from-else1 : tie.Else1 Inv-loop μ-loop → tie.At-loop Inv-loop μ-loop
+at-loop-from-else1 c = c .before .before
+
+abbrev at-then1 : tie.After-draw-row-arg Inv-loop μ-loop → tie.Then1 Inv-loop μ-loop
+at-then1 c = c .before
+
+abbrev at-draw-row-arg : tie.After-draw-row Inv-loop μ-loop → tie.After-draw-row-arg Inv-loop μ-loop
+at-draw-row-arg c = c .before
+
+abbrev at-draw-row : tie.After-struct-known2 Inv-loop μ-loop → tie.After-draw-row Inv-loop μ-loop
+at-draw-row c = c .before .before .before
+
 -- The row lies within the picture.
 row-fits : (c : tie.Then1 Inv-loop μ-loop)
     → let l = c .before .before in
-    l .loop .from + l .before .before .before .args .grid .width ≤ length (l .loop .picture)
+    l .loop .from + at-start l .args .grid .width ≤ length (l .loop .picture)
 row-fits c =
     let l = c .before .before in
-    let b = l .before .before .before in
+    let b = at-start l in
     let a = b .args in
     part-fits (now (a .code)) (rowsLeft (now (a .code)) (gridIn (a .grid) true)) (a .grid .width) (a .grid .height) 0
     (now (a .picture)) (l .loop .picture) (l .loop .j) (l .loop .from) (l .loop .inv) (c .if1 .taken)
@@ -42,13 +61,13 @@ row-fits c =
 
 draw-row-requires : tie.Need-draw-row-requires Inv-loop μ-loop
 draw-row-requires c κs =
-    (c .before .before .before .before .before .before .pre .0, (c .before .if1 .taken, row-fits (c .before)))
+    (at-start (at-loop-from-then1 (at-then1 c)) .pre .0, (c .before .if1 .taken, row-fits (c .before)))
 
 cast-from : tie.Need-cast-from Inv-loop μ-loop
 cast-from c = search needs
 
 add-from : tie.Need-add-from Inv-loop μ-loop
-add-from c = omega (arith, row-fits (c .before .before .before .before .before))
+add-from c = omega (arith, row-fits (at-then1 (at-draw-row-arg (at-draw-row c))))
 
 add-j : tie.Need-add-j Inv-loop μ-loop
 add-j c = search needs
@@ -58,16 +77,16 @@ loop-less c = search needs
 
 loop-again : tie.Need-loop-again Inv-loop μ-loop
 loop-again c =
-    let r = c .before .before .before .draw-row in
-    let t = c .before .before .before .before .before in
+    let r = at-draw-row c .draw-row in
+    let t = at-then1 (at-draw-row-arg (at-draw-row c)) in
     let l = t .before .before in
-    let a = l .before .before .before .args in
+    let a = at-start l .args in
     next-heights (now (a .code)) (gridIn (a .grid) true) (now (a .picture)) (l .loop .picture) (l .loop .j) (l .loop .from)
     (l .loop .inv) (t .if1 .taken) (r .last .1 .1 .1 .0) (r .kept .1 .1 .1 .0) (r .ensures) _ refl
 
 full-count-requires : tie.Need-full-count-requires Inv-loop μ-loop
 full-count-requires c κs =
-    let b = c .before .before .before .before .before in
+    let b = at-start (at-loop-from-else1 c) in
     let s = grid-ok b .sizes in
     (b .pre .1 .0, (s .width .most, s .height .most, omega (arith, s .depth refl .most)))
 
@@ -78,7 +97,7 @@ returns : tie.Need-returns Inv-loop μ-loop
 returns c =
     let e = c .before in
     let l = e .before .before in
-    let b = l .before .before .before in
+    let b = at-start l in
     let a = b .args in
     solid-drawn (now (a .code)) (gridIn (a .grid) true) (now (a .picture)) (l .loop .picture) (l .loop .j) (l .loop .from)
     (l .loop .inv) (c .full-count .result) (e .if1 .left) (b .pre .1 .1)
