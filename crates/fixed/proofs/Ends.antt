@@ -144,5 +144,6 @@ module _ {low high least : ℤ} (fl : SFits w32 low) (fh : SFits w32 high) (fs :
   pub size-up-to : (t : Bool) → ltZ (pos 0) (read w32 low) ≡ false → ltZ (read w32 high) (pos 0) ≡ t
       → pick t (read w32 least) (pos 0) ≡ pick (holdsZero (range low high)) (pos 0) least
   size-up-to t e h =
-      let k = up-to-zero low high t (rw (toZ-ofZ {w = w32} {z = low} fl) at e) (rw (toZ-ofZ {w = w32} {z = high} fh) at h) in
+      let k = up-to-zero low high t (rw (toZ-ofZ {w = w32} {z = low} fl) at e)
+      (rw (toZ-ofZ {w = w32} {z = high} fh) at h) in
       ap (λ z. pick t z (pos 0)) (toZ-ofZ fs) ∙ sym (ap (λ u. pick u (pos 0) least) k ∙ pick-not t (pos 0) least)

@@ -16,7 +16,8 @@ pub record Fit (s : Span) : Type 0 where
   pub low : SFits w32 (s .low)
   pub high : SFits w32 (s .high)
 
-pub fit : {A B : Type 0} {s : Span} → (A × (mag (s .low) < 2 ^ 31)) × ((B × (mag (s .high) < 2 ^ 31)) × Unit {0}) → Fit s
+pub fit : {A B : Type 0} {s : Span} → (A × (mag (s .low) < 2 ^ 31)) × ((B × (mag (s .high) < 2 ^ 31)) × Unit {0})
+    → Fit s
 fit g = record { low = record { sfits = g .0 .1 }; high = record { sfits = g .1 .0 .1 } }
 
 -- Each end is what a call answers: of one number, or of two.
@@ -33,7 +34,8 @@ module _ (l h : ℤ) (fl : mag l < 2 ^ 31) (fh : mag h < 2 ^ 31) where
 
 -- Which of two spans lies below the other, by tests of words.
 pub side-of : (a b : Span) (r : ℕ) → Fit a → Fit b
-    → r ≡ pick (below (read w32 (a .high)) (read w32 (b .low))) 1 (pick (below (read w32 (b .high)) (read w32 (a .low))) 2 0)
+    → r ≡ pick (below (read w32 (a .high)) (read w32 (b .low))) 1
+    (pick (below (read w32 (b .high)) (read w32 (a .low))) 2 0)
     → r ≡ sideBelow (rangeIn a) (rangeIn b)
 unfolding sideBelow
 side-of a b r f g e =

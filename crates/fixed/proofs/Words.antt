@@ -21,7 +21,8 @@ read-value {z} f h = rw (toZ-ofZ {w = w32} {z = z} f) h
 pub back-one : (w : Width) (op : ℤ → ℤ) (r : ℤ) {x a : ℤ} → mag r < 2 ^ hbits w → r ≡ op x → x ≡ a → read w r ≡ op a
 back-one w op r h e ea = back w r h (e ∙ ap op ea)
 
-pub back-two : {A B : Type 0} (w : Width) (op : A → B → ℤ) (r : ℤ) {x a : A} {y b : B} → mag r < 2 ^ hbits w → r ≡ op x y
+pub back-two : {A B : Type 0} (w : Width) (op : A → B → ℤ) (r : ℤ) {x a : A} {y b : B} → mag r < 2 ^ hbits w
+    → r ≡ op x y
     → x ≡ a → y ≡ b → read w r ≡ op a b
 back-two w op r h e ea eb = back w r h (e ∙ both op ea eb)
 
@@ -120,9 +121,12 @@ pub absolute-is : {a : ℤ} (t : Bool) → SFits w32 a → ltZ (read w32 a) (pos
 absolute-is {a} t f = rw (toZ-ofZ {w = w32} {z = a} f) (sized a t)
 
 -- An operation on the results of itself on two pairs.
-module _ (op : ℤ → ℤ → ℤ) {a b c d : ℤ} (l h r : ℤ) (fa : SFits w64 a) (fb : SFits w64 b) (fc : SFits w64 c) (fd : SFits w64 d)
+module _ (op : ℤ → ℤ → ℤ) {a b c d : ℤ} (l h r : ℤ) (fa : SFits w64 a) (fb : SFits w64 b) (fc : SFits w64 c)
+    (fd : SFits w64 d)
     (fl : mag l < 2 ^ 63) (fh : mag h < 2 ^ 63) (fr : mag r < 2 ^ 63)
-    (el : l ≡ op (read w64 a) (read w64 b)) (eh : h ≡ op (read w64 c) (read w64 d)) (er : r ≡ op (read w64 l) (read w64 h)) where
+    (el : l ≡ op (read w64 a) (read w64 b)) (eh : h ≡ op (read w64 c) (read w64 d))
+    (er : r ≡ op (read w64 l) (read w64 h)) where
   pub of-four : read w64 r ≡ op (op a b) (op c d)
   of-four =
-      back-two w64 op r fr er (back-two w64 op l fl el (toZ-ofZ fa) (toZ-ofZ fb)) (back-two w64 op h fh eh (toZ-ofZ fc) (toZ-ofZ fd))
+      back-two w64 op r fr er (back-two w64 op l fl el (toZ-ofZ fa) (toZ-ofZ fb))
+      (back-two w64 op h fh eh (toZ-ofZ fc) (toZ-ofZ fd))

@@ -2,7 +2,8 @@
 use crate::value;
 ghost use mathlib.Core.Path.{_≡_};
 ghost use lib.IntN.{pos};
-ghost use Rattle.rules.specs.Values.{pick, range, smaller, larger, holdsZero, sumR, differenceR, productR, negR, absoluteR, squareR, rootR, smallerR, largerR};
+ghost use Rattle.rules.specs.Values.{pick, range, smaller, larger, holdsZero, sumR, differenceR, productR, negR};
+ghost use Rattle.rules.specs.Values.{absoluteR, squareR, rootR, smallerR, largerR};
 ghost use Rattle.fixed.specs.Shapes.{rangeIn, ValueEnds};
 
 // A range of values, by its ends.

@@ -1,7 +1,8 @@
 // Every operation on values but the root.
 ghost use mathlib.Core.Path.{_≡_};
 ghost use lib.IntN.{negℤ, _*ℤ_};
-ghost use Rattle.rules.specs.Values.{IsValue, smaller, larger, clamped, floored, sum, difference, product, absolute, square};
+ghost use Rattle.rules.specs.Values.{IsValue, smaller, larger, clamped, floored, sum, difference, product, absolute};
+ghost use Rattle.rules.specs.Values.{square};
 
 // The lesser and the greater of two whole numbers.
 pub fn lesser(a: i64, b: i64) -> i64
@@ -55,7 +56,8 @@ pub fn exact_product(a: i32, b: i32) -> i64
     a as i64 * b as i64
 }
 
-// Rounded down, as the shift does, and clamped: at −M at once, since the machine multiplies no wide numbers side by side.
+// Rounded down, as the shift does, and clamped: at −M at once, since the machine multiplies no wide numbers side by
+// side.
 pub fn round(x: i64) -> i32
     ensures { λ r. ⌜ r ≡ clamped (floored x) ⌝ }
 {

@@ -12,7 +12,8 @@ use Rattle.rules.specs.Drawings.{Grid, layers, rowFrom, rowsFrom, drawn}
 use Rattle.rules.specs.Pictures.{stride, byteOf, rowBytes, bitsOf, picture}
 use Rattle.code.specs.Words.{tapeIn}
 use Rattle.full_drawing.specs.Full.{Byte, byteRow, Put, FullDrawn}
-use Rattle.full_drawing.proofs.Parts.{Along, next-along, next-one, row-put, picture-put, one-less, none-left, all-left}
+use Rattle.full_drawing.proofs.Parts.{Along, next-along, next-one, row-put, picture-put, one-less, none-left}
+use Rattle.full_drawing.proofs.Parts.{all-left}
 use Rattle.full_drawing.proofs.HeightRows.{rows-first, rows-all}
 use Rattle.full_drawing.proofs.Counts.{full-count}
 
@@ -45,7 +46,8 @@ bytes-first m w c j t g l =
     let e : 8 * c + 8 ≡ 8 * suc c = omega arith in
     ap (λ k. rowBytes k h) (one-less m c l)
     ∙ ap (λ r. byteOf (take 8 h) ∷ rowBytes (m - suc c) r)
-    (drop-row 8 (w - 8 * c) (8 * c) j t g ∙ ap (λ x. rowFrom x (8 * c + 8) j t g) d ∙ ap (λ x. rowFrom (w - 8 * suc c) x j t g) e)
+    (drop-row 8 (w - 8 * c) (8 * c) j t g ∙ ap (λ x. rowFrom x (8 * c + 8) j t g) d
+    ∙ ap (λ x. rowFrom (w - 8 * suc c) x j t g) e)
 
 bytes-none : (m : ℕ) (h : List ℕ) → rowBytes (m - m) h ≡ []
 unfolding rowBytes
@@ -54,7 +56,8 @@ bytes-none m h = rw (none-left m)
 bytes-all : (m w j : ℕ) (t : Tape) (g : Grid)
     → rowBytes (m - 0) (rowFrom (w - 8 * 0) (8 * 0) j t g) ≡ rowBytes m (rowFrom w 0 j t g)
 bytes-all m w j t g =
-    ap (λ k. rowBytes k (rowFrom (w - 8 * 0) (8 * 0) j t g)) (all-left m) ∙ ap (λ k. rowBytes m (rowFrom k 0 j t g)) (all-left w)
+    ap (λ k. rowBytes k (rowFrom (w - 8 * 0) (8 * 0) j t g)) (all-left m) ∙ ap (λ k. rowBytes m (rowFrom k 0 j t g))
+    (all-left w)
 
 module _ (ws : List ℕ) (g : Grid) (j from : ℕ) (p₀ p : List ℕ) (c : ℕ)
     (a : Along ws (bytesLeft ws g j) 1 (stride (g .width)) from p₀ p c (from + c)) where
@@ -100,7 +103,8 @@ packed-all t g =
 
 module _ (ws : List ℕ) (g : Grid) (p₀ p : List ℕ) (j at : ℕ)
     (a : Along ws (packedLeft ws g) (stride (g .width)) (g .height) 0 p₀ p j at) where
-  pub next-bytes : j < g .height → (p′ : List ℕ) → length p′ ≡ length p → Put ws (byteRow ws g j) (stride (g .width)) at p p′
+  pub next-bytes : j < g .height → (p′ : List ℕ) → length p′ ≡ length p
+      → Put ws (byteRow ws g j) (stride (g .width)) at p p′
       → (at′ : ℕ) → at′ ≡ at + stride (g .width)
       → Along ws (packedLeft ws g) (stride (g .width)) (g .height) 0 p₀ p′ (j + 1) at′
   next-bytes l =

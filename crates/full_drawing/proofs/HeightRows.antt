@@ -10,7 +10,8 @@ use Rattle.rules.specs.Drawings.{Grid, layers, columnFrom, rowFrom, rowsFrom, d
 use Rattle.rules.specs.Pictures.{picture}
 use Rattle.code.specs.Words.{tapeIn}
 use Rattle.full_drawing.specs.Full.{Height, heightRow, Put, FullDrawn}
-use Rattle.full_drawing.proofs.Parts.{Along, next-along, next-one, row-put, picture-put, one-less, none-left, all-left}
+use Rattle.full_drawing.proofs.Parts.{Along, next-along, next-one, row-put, picture-put, one-less, none-left}
+use Rattle.full_drawing.proofs.Parts.{all-left}
 use Rattle.full_drawing.proofs.Counts.{full-count}
 
 -- What is left of a row from pixel i on.
@@ -32,7 +33,8 @@ module _ (ws : List ℕ) (g : Grid) (j from : ℕ) (p₀ p : List ℕ) (i : ℕ)
       → Along ws (heightsLeft ws g j) 1 (g .width) from p₀ (set p (from + i) v) (i + 1) (from + (i + 1))
   next-height v h l =
       next-one ws (heightsLeft ws g j) (g .width) from p₀ p i a v
-      (λ n f. row-first (g .width) i j (tapeIn n ws) g l ∙ ap (λ x. x ∷ heightsLeft ws g j n (suc i)) (sym (h .height n f))) l
+      (λ n f. row-first (g .width) i j (tapeIn n ws) g l ∙ ap (λ x. x ∷ heightsLeft ws g j n (suc i))
+      (sym (h .height n f))) l
 
   pub heights-put : g .width ≤ i → Put ws (heightRow ws g j) (g .width) from p₀ p
   heights-put =
@@ -70,7 +72,8 @@ module _ (ws : List ℕ) (g : Grid) (p₀ p : List ℕ) (j at : ℕ)
   solid-drawn c l k e =
       record {
         pixels = λ n f.
-            picture-put ws (rowsLeft ws g) (g .width) (g .height) p₀ p j at a (λ m. rows-none (g .height) (tapeIn m ws) g) l
+            picture-put ws (rowsLeft ws g) (g .width) (g .height) p₀ p j at a
+            (λ m. rows-none (g .height) (tapeIn m ws) g) l
             (k ∙ mul-comm (g .width) (g .height)) n f ∙ rows-all (tapeIn n ws) g;
         clauses = λ n f. full-count n ws g c e;
       }

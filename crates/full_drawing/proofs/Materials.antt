@@ -11,7 +11,8 @@ abbrev sample : ℤ → ℤ → ℤ → Sample
 sample x y z = record { x = x; y = y; z = z }
 
 pub same-sample : {x y z x′ y′ z′ : ℤ} → x ≡ x′ → y ≡ y′ → z ≡ z′ → sample x y z ≡ sample x′ y′ z′
-same-sample {x} {y} {z} {x′} {y′} {z′} e f g = ap (λ a. sample a y z) e ∙ ap (λ a. sample x′ a z) f ∙ ap (sample x′ y′) g
+same-sample {x} {y} {z} {x′} {y′} {z′} e f g = ap (λ a. sample a y z) e ∙ ap (λ a. sample x′ a z) f
+    ∙ ap (sample x′ y′) g
 
 below-zero : (z : ℤ) → ltZ z (pos 0) ≡ isNeg z
 below-zero (pos a) = le-ltb a 0 (omega arith)

@@ -10,7 +10,8 @@ use lib.Seq.{take-suc-set, take-all}
 use Rattle.code.specs.Runs.{Fit}
 use Rattle.full_drawing.specs.Full.{Put}
 
--- A loop puts `end` parts of s numbers each, from `from` on; i of them are put, and the next stands at `at`. With n slots
+-- A loop puts `end` parts of s numbers each, from `from` on; i of them are put, and the next stands at `at`. With n
+-- slots
 -- `rest n i` is what is left.
 pub record Along (ws : List ℕ) (rest : ℕ → ℕ → List ℕ) (s end from : ℕ) (p₀ p : List ℕ) (i at : ℕ) : Type 0 where
   pub size : length p ≡ length p₀
@@ -46,7 +47,8 @@ module _ (ws : List ℕ) (rest : ℕ → ℕ → List ℕ) (s end from : ℕ) (p
           same = λ n f.
               rw (add-one i)
               (ap (λ x. take x p′ ++ rest n (suc i)) e ∙ ap (λ x. x ++ rest n (suc i)) (u .put n f)
-              ∙ append-assoc (take at p) (part n) (rest n (suc i)) ∙ ap (λ x. take at p ++ x) (sym (first n f)) ∙ a .same n f);
+              ∙ append-assoc (take at p) (part n) (rest n (suc i)) ∙ ap (λ x. take at p ++ x) (sym (first n f))
+              ∙ a .same n f);
         }
 
     pub done-along : ((n : ℕ) → rest n end ≡ []) → end ≤ i → Put ws (λ n. rest n 0) (end * s) from p₀ p
@@ -55,7 +57,8 @@ module _ (ws : List ℕ) (rest : ℕ → ℕ → List ℕ) (s end from : ℕ) (p
         let d : from + end * s ≡ at = ap (λ x. from + x * s) (sym e) ∙ sym (a .place) in
         record {
           put = λ n f.
-              rw d (sym (append-nil (take at p)) ∙ ap (λ x. take at p ++ x) (sym (none n) ∙ ap (rest n) (sym e)) ∙ a .same n f);
+              rw d (sym (append-nil (take at p)) ∙ ap (λ x. take at p ++ x) (sym (none n) ∙ ap (rest n) (sym e))
+              ∙ a .same n f);
         }
 
 -- Parts of one number, which make a row.
@@ -64,7 +67,8 @@ module _ (ws : List ℕ) (rest : ℕ → ℕ → List ℕ) (end from : ℕ) (p�
   pub next-one : (v : ℕ) → ((n : ℕ) → Fit n ws → rest n i ≡ v ∷ rest n (suc i)) → i < end → from + i < length p
       → Along ws rest 1 end from p₀ (set p (from + i) v) (i + 1) (from + (i + 1))
   next-one v first l m =
-      next-along ws rest 1 end from p₀ p i (from + i) a (λ n. v ∷ []) first l (set p (from + i) v) (length-set p (from + i) v)
+      next-along ws rest 1 end from p₀ p i (from + i) a (λ n. v ∷ []) first l (set p (from + i) v)
+      (length-set p (from + i) v)
       (record { put = λ n f. rw (add-one (from + i)) (take-suc-set p (from + i) v m) }) (from + (i + 1)) (omega arith)
 
   pub row-put : (row : ℕ → List ℕ) → ((n : ℕ) → rest n 0 ≡ row n) → ((n : ℕ) → rest n end ≡ []) → end ≤ i

@@ -40,7 +40,8 @@ materials-more (suc m) i j t g =
     rw e (ap (λ bs. material t (sampleAt g i j 0) ∷ bs) (materials-more m (suc i) j t g))
 
 -- The heights of one layer are 0 and 1.
-column-flat : (t : Tape) (g : D.Grid) (i j : ℕ) (b : Bool) → b ≡ material t (sampleAt g i j 0) → columnFrom 1 t g i j ≡ when b 1
+column-flat : (t : Tape) (g : D.Grid) (i j : ℕ) (b : Bool) → b ≡ material t (sampleAt g i j 0) → columnFrom 1 t g i j
+    ≡ when b 1
 column-flat t g i j true e = column-found 0 t g i j e
 column-flat t g i j false e = column-passed 0 t g i j e ∙ column-none t g i j
 
@@ -115,7 +116,8 @@ module _ (ws : List ℕ) (g : D.Grid) (i j count : ℕ) where
             ∙ ap rowByte (materials-more k i j t g));
       }
 
-  pub done-pixels : (byte k : ℕ) → layers g ≡ 1 → count ≡ min 8 (g .width - i) → count ≤ k → Pixels ws g i j count byte k
+  pub done-pixels : (byte k : ℕ) → layers g ≡ 1 → count ≡ min 8 (g .width - i) → count ≤ k
+      → Pixels ws g i j count byte k
       → Byte ws g i j byte
   done-pixels byte k o e l a =
       let c : k ≡ min 8 (g .width - i) = omega (arith, a .within) in
@@ -123,7 +125,8 @@ module _ (ws : List ℕ) (g : D.Grid) (i j count : ℕ) where
         byte = λ n f.
             let t = tapeIn n ws in
             a .same n f ∙ byte-marks (materials k i j t g)
-            ∙ ap byteOf (sym (row-flat k i j t g o) ∙ ap (λ m. rowFrom m i j t g) c ∙ sym (take-row 8 (g .width - i) i j t g));
+            ∙ ap byteOf
+            (sym (row-flat k i j t g o) ∙ ap (λ m. rowFrom m i j t g) c ∙ sym (take-row 8 (g .width - i) i j t g));
       }
 
 -- A flat grid's samples, as the code has them, are values.

@@ -40,7 +40,8 @@ fn row_byte(code: &[u64], grid: Grid, i: u32, j: u32) -> u8
 fn draw_row(code: &[u64], grid: Grid, j: u32, picture: &mut [u8], from: usize, row: usize)
     requires { ⌜ Drawable false (now code) (gridIn grid false) ⌝ }
     requires { ⌜ (row ≡ strideOf (grid .width)) × (j < grid .height) × (from + row ≤ length (now picture)) ⌝ }
-    ensures { λ _. ⌜ Put (now (code .entry)) (byteRow (now (code .entry)) (gridIn grid false) j) row from (now (picture .entry)) (now (picture .exit)) ⌝ }
+    ensures { λ _. ⌜ Put (now (code .entry)) (byteRow (now (code .entry)) (gridIn grid false) j) row from
+        (now (picture .entry)) (now (picture .exit)) ⌝ }
 {
     let mut c = 0;
     while c < row {

@@ -34,7 +34,8 @@ fn column(code: &[u64], grid: Grid, i: u32, j: u32) -> u16
 fn draw_row(code: &[u64], grid: Grid, j: u32, picture: &mut [u16], from: usize)
     requires { ⌜ Drawable true (now code) (gridIn grid true) ⌝ }
     requires { ⌜ (j < grid .height) × (from + grid .width ≤ length (now picture)) ⌝ }
-    ensures { λ _. ⌜ Put (now (code .entry)) (heightRow (now (code .entry)) (gridIn grid true) j) (grid .width) from (now (picture .entry)) (now (picture .exit)) ⌝ }
+    ensures { λ _. ⌜ Put (now (code .entry)) (heightRow (now (code .entry)) (gridIn grid true) j) (grid .width) from
+        (now (picture .entry)) (now (picture .exit)) ⌝ }
 {
     let mut i = 0;
     while i < grid.width {

@@ -32,12 +32,15 @@ root-below r h = by (ltb r 16777216) refl
     by false e = omega (arith, product-at-most 16777216 16777216 r r (ltb-false r 16777216 e) (ltb-false r 16777216 e))
 
 -- What settling leaves is the root.
-pub settled-is-root : (m r : ℕ) → m ≤ 2147483647 → r * r ≤ m * 65536 → m * 65536 < (r + 1) * (r + 1) → pos r ≡ rootOf (pos m)
+pub settled-is-root : (m r : ℕ) → m ≤ 2147483647 → r * r ≤ m * 65536 → m * 65536 < (r + 1) * (r + 1)
+    → pos r ≡ rootOf (pos m)
 settled-is-root m r h k l = sym (root-is m r h (omega arith) (rw add-one at swapped))
   where
     swapped : 65536 * m < (r + 1) * (r + 1)
     swapped = omega arith
 
 -- Values that are passed and returned stay what they are.
-pub handed-on : (a z : ℤ) {y : ℤ} → SFits w32 a → mag z < 2 ^ 31 → z ≡ y → y ≡ rootOf (toZ w32 (ofZ w32 a)) → toZ w32 (ofZ w32 z) ≡ rootOf a
-handed-on a z f h e g = toZ-ofZ {w = w32} {z = z} (record { sfits = h }) ∙ e ∙ g ∙ ap rootOf (toZ-ofZ {w = w32} {z = a} f)
+pub handed-on : (a z : ℤ) {y : ℤ} → SFits w32 a → mag z < 2 ^ 31 → z ≡ y → y ≡ rootOf (toZ w32 (ofZ w32 a))
+    → toZ w32 (ofZ w32 z) ≡ rootOf a
+handed-on a z f h e g = toZ-ofZ {w = w32} {z = z} (record { sfits = h }) ∙ e ∙ g
+    ∙ ap rootOf (toZ-ofZ {w = w32} {z = a} f)

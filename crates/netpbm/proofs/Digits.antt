@@ -26,11 +26,13 @@ enough (suc l) (suc m) v f h =
     let power : 10 ^ suc (suc l) ≡ 10 * 10 ^ suc l = pow-succ' 10 (suc l) in
     by-size (enough l m (v / 10) (omega arith) (omega arith))
   where
-    by-size : digitsFrom (suc m) (v / 10) ≡ digitsFrom (suc l) (v / 10) → digitsFrom (suc (suc m)) v ≡ digitsFrom (suc (suc l)) v
+    by-size : digitsFrom (suc m) (v / 10) ≡ digitsFrom (suc l) (v / 10) → digitsFrom (suc (suc m)) v
+        ≡ digitsFrom (suc (suc l)) v
     by-size e =
         elim (decLt v 10) [
           | yes k ↦ last (suc m) v k ∙ sym (last (suc l) v k)
-          | no k ↦ more (suc m) v (omega arith) ∙ ap (λ s. s ++ ((48 + v % 10) ∷ [])) e ∙ sym (more (suc l) v (omega arith))
+          | no k ↦ more (suc m) v (omega arith) ∙ ap (λ s. s ++ ((48 + v % 10) ∷ [])) e
+              ∙ sym (more (suc l) v (omega arith))
         ]
 
 -- A number of 64 bits: what its last digit leaves.
@@ -60,7 +62,8 @@ most (suc l) v = by-size (most l (v / 10))
     by-size e =
         elim (decLt v 10) [
           | yes k ↦ omega (arith, ap length (last l v k))
-          | no k ↦ omega (arith, ap length (more l v (omega arith)), length-append (digitsFrom l (v / 10)) ((48 + v % 10) ∷ []))
+          | no k ↦ omega
+              (arith, ap length (more l v (omega arith)), length-append (digitsFrom l (v / 10)) ((48 + v % 10) ∷ []))
         ]
 
 pub most-length : (v : ℕ) → length (numeral v) ≤ 20

@@ -9,7 +9,8 @@ use lib.Dec.{leb}
 use lib.ListN.{length, length-append}
 use borrow.Author.Tests.{leb-true, eq-eqb, ne-eqb, not-true, not-false}
 use Rattle.rules.specs.Drawings.{sizeOk}
-use Rattle.rules.specs.Pictures.{stride, sidesOk, decimal, head, cleanRows, bitmapFile, highFirst, heightFile, digitsFrom}
+use Rattle.rules.specs.Pictures.{stride, sidesOk, decimal, head, cleanRows, bitmapFile, highFirst, heightFile}
+use Rattle.rules.specs.Pictures.{digitsFrom}
 use Rattle.rules.proofs.Order.{and-left, and-right}
 use Rattle.netpbm.specs.FileParts.{sizes}
 use Rattle.netpbm.specs.Files.{FileWith}
@@ -67,9 +68,11 @@ length-head k w h = omega (arith, length-sizes w h)
 pub short-head : (k w h : ℕ) → w < 1000 → h < 1000 → length (head k w h) ≤ 11
 short-head k w h i j = omega (arith, length-head k w h, few-digits w i, few-digits h j)
 
-pub length-bitmap : (w h : ℕ) (p : List ℕ) → length p ≡ h * stride w → length (bitmapFile w h p) ≡ length (head 52 w h) + length p
+pub length-bitmap : (w h : ℕ) (p : List ℕ) → length p ≡ h * stride w → length (bitmapFile w h p)
+    ≡ length (head 52 w h) + length p
 unfolding bitmapFile
-length-bitmap w h p e = length-append (head 52 w h) (cleanRows h w p) ∙ ap (λ n. length (head 52 w h) + n) (length-clean-rows h w p e)
+length-bitmap w h p e = length-append (head 52 w h) (cleanRows h w p) ∙ ap (λ n. length (head 52 w h) + n)
+    (length-clean-rows h w p e)
 
 pub length-heights : (w h : ℕ) (p : List ℕ) → length (heightFile w h p) ≡ length (head 53 w h) + (6 + 2 * length p)
 unfolding heightFile digitsFrom
@@ -93,7 +96,8 @@ module _ {w h n : ℕ} {p b o : List ℕ} where
       let d = ne-eqb (length o) (length b) k in
       record { number = rw (e, s, d) refl; bytes = rw (e, s, d) refl }
 
-  pub made : {o′ : List ℕ} → sidesOk w h ≡ true → length p ≡ n → length o ≡ length b → o′ ≡ b → FileWith w h n p b o o′ 0
+  pub made : {o′ : List ℕ} → sidesOk w h ≡ true → length p ≡ n → length o ≡ length b → o′ ≡ b
+      → FileWith w h n p b o o′ 0
   made e l k q =
       let s = eq-eqb (length p) n l in
       let t = eq-eqb (length o) (length b) k in

@@ -29,7 +29,8 @@ place-up {v} {p} l h =
 shorter : (e v : ℕ) → v < 10 ^ 20 → length (numeral (v / 10 ^ e)) ≤ length (numeral v)
 shorter zero v h = omega (arith, ap (λ n. length (numeral n)) (div-one v))
 shorter (suc e) v h =
-    let same : v / 10 / 10 ^ e ≡ v / 10 ^ suc e = div-div-eq-div-mul v 10 (10 ^ e) ∙ ap (λ n. v / n) (sym (pow-succ' 10 e)) in
+    let same : v / 10 / 10 ^ e ≡ v / 10 ^ suc e = div-div-eq-div-mul v 10 (10 ^ e) ∙ ap (λ n. v / n)
+    (sym (pow-succ' 10 e)) in
     rw same at (le-trans (shorter e (v / 10) (omega arith)) tenth)
   where
     tenth : length (numeral (v / 10)) ≤ length (numeral v)
@@ -52,7 +53,8 @@ module _ {v p : ℕ} (l : Place v p) (h : 10 ≤ p) where
   place-down = lower v (l .exponent) p (l .power) (l .held) h .0
 
   less-one : v / (p / 10) / 10 ≡ v / p
-  less-one = div-div-eq-div-mul v (p / 10) 10 ∙ ap (λ n. v / n) (sym (lower v (l .exponent) p (l .power) (l .held) h .1))
+  less-one = div-div-eq-div-mul v (p / 10) 10 ∙ ap (λ n. v / n)
+      (sym (lower v (l .exponent) p (l .power) (l .held) h .1))
 
   some : 1 ≤ v / p
   some = le-div-iff-mul-le (positive l) .1 (omega arith)

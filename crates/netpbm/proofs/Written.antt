@@ -34,7 +34,8 @@ then {o} {s} {o′} {t} {o″} {a} {b} {r} p q =
       rest = q .rest ∙ k;
     }
 
-pub two : (o : List ℕ) (at v w : ℕ) → at + 2 ≤ length o → Appends o at (v ∷ (w ∷ [])) (set (set o at v) (at + 1) w) (at + 2)
+pub two : (o : List ℕ) (at v w : ℕ) → at + 2 ≤ length o → Appends o at (v ∷ (w ∷ [])) (set (set o at v) (at + 1) w)
+    (at + 2)
 two o at v w h =
     let place : (at + 1) + 1 ≡ at + 2 = omega arith in
     rw place at
@@ -53,10 +54,12 @@ at-start {o} {s} {o′} {r} p =
     sym (take-append-drop r o′) ∙ ap₂ (λ x y. x ++ y) (p .front) (p .rest ∙ ap (λ k. drop k o) n)
 
 -- A list copied byte by byte.
-pub copy-more : (s : List ℕ) (i : ℕ) {o o′ : List ℕ} {a b : ℕ} → Appends o a (take i s) o′ b → i < length s → b < length o′ → Appends o a (take (i + 1) s) (set o′ b (getD s i 0)) (b + 1)
+pub copy-more : (s : List ℕ) (i : ℕ) {o o′ : List ℕ} {a b : ℕ} → Appends o a (take i s) o′ b → i < length s
+    → b < length o′ → Appends o a (take (i + 1) s) (set o′ b (getD s i 0)) (b + 1)
 copy-more s i {o} {o′} {a} {b} p h k = rw (add-one i, take-suc s i 0 h) (then p (one o′ b (getD s i 0) k))
 
-pub copy-done : (s : List ℕ) (i : ℕ) {o o′ : List ℕ} {a b : ℕ} → Appends o a (take i s) o′ b → length s ≤ i → Appends o a s o′ b
+pub copy-done : (s : List ℕ) (i : ℕ) {o o′ : List ℕ} {a b : ℕ} → Appends o a (take i s) o′ b → length s ≤ i
+    → Appends o a s o′ b
 copy-done s i p h = rw (take-all i s h) at p
 
 -- The same bytes by another name.

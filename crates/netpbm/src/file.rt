@@ -84,7 +84,8 @@ fn put_rows(out: &mut [u8], at: usize, picture: &[u8], width: usize, height: usi
     requires { ⌜ width < 1000 ⌝ }
     requires { ⌜ length (now picture) ≡ height * stride width ⌝ }
     requires { ⌜ at + length (now picture) ≤ length (now out) ⌝ }
-    ensures { λ r. ⌜ Appends (now (out .entry)) at (cleanRows height width (now (picture .entry))) (now (out .exit)) r ⌝ }
+    ensures { λ r. ⌜ Appends (now (out .entry)) at (cleanRows height width (now (picture .entry)))
+        (now (out .exit)) r ⌝ }
 {
     let row = (width + 7) / 8;
     let mut next = at;

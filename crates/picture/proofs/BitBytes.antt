@@ -3,7 +3,8 @@ use mathlib.Core.Path.{_≡_, refl, sym, ap, _∙_}
 use mathlib.Core.Bool.{Bool, true, false}
 use mathlib.Core.List.{List, [], _∷_, _++_}
 use Prim.Native.Nat.{ℕ, zero, suc, _+_, _-_, _*_, _/_, _%_, _^_, _<_, _≤_, max}
-use native.Mathlib.Nat.{add-mul-div-right, add-comm, pow-suc, one-mul, zero-add, add-mul, mod-eq-of-lt, div-eq-of-lt, zero-div, zero-mul, suc-sub-suc, sub-zero}
+use native.Mathlib.Nat.{add-mul-div-right, add-comm, pow-suc, one-mul, zero-add, add-mul, mod-eq-of-lt, div-eq-of-lt}
+use native.Mathlib.Nat.{zero-div, zero-mul, suc-sub-suc, sub-zero}
 use native.Mathlib.Omega.{arith}
 use mir.Val.{boolByte}
 use lib.Bits.{bitAnd, bitOr, or-shr, or-step, or-shifted}
@@ -110,7 +111,8 @@ row-byte-rest : (n : ℕ) (bs : List Bool) → length bs ≤ n
 unfolding rowByteFrom
 row-byte-rest zero bs l = (0, sym (zero-mul (2 ^ (0 - length bs))))
 row-byte-rest (suc n) [] l = (0, sym (zero-mul (2 ^ (suc n - 0))))
-row-byte-rest (suc n) (a ∷ bs) l = rest-more n (length bs) a (rowByteFrom n bs) (omega arith) (row-byte-rest n bs (omega arith))
+row-byte-rest (suc n) (a ∷ bs) l = rest-more n (length bs) a (rowByteFrom n bs) (omega arith)
+    (row-byte-rest n bs (omega arith))
 
 -- The bit that the code joins.
 pixel-bit : (k : ℕ) (b : Bool) → k < 8 → boolByte b * 2 ^ (7 - k) % 256 ≡ when b (2 ^ (8 - suc k))

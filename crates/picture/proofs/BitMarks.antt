@@ -1,4 +1,5 @@
--- What a row of samples marks, by place, and the bits of a picture when bytes are stored: one by an `or`, whole bytes, and
+-- What a row of samples marks, by place, and the bits of a picture when bytes are stored: one by an `or`, whole bytes,
+-- and
 -- so a row that is filled.
 use mathlib.Core.Path.{_≡_, refl, sym, ap, _∙_, subst}
 use mathlib.Core.Bool.{Bool, true, false}
@@ -8,7 +9,8 @@ use native.Mathlib.Nat.{add-sub-cancel-left, add-assoc, mul-le-mul-right, sub-se
 use native.Mathlib.Omega.{arith}
 use lib.Bits.{bitOr}
 use lib.Dec.{eqb, ltb}
-use lib.ListN.{length, getD, set, replicate, length-set, length-replicate, getD-replicate, replicate-append-replicate, List·getD-append, List·getD-eq-default}
+use lib.ListN.{length, getD, set, replicate, length-set, length-replicate, getD-replicate, replicate-append-replicate}
+use lib.ListN.{List·getD-append, List·getD-eq-default}
 use lib.Seq.{getD-set-same, getD-set-other, getD-append-add}
 use borrow.Author.Tests.{ltb-true, ltb-false, lt-ltb, le-ltb, eqb-true, eqb-false}
 use Rattle.rules.specs.Values.{pick, when}

@@ -8,15 +8,18 @@ use native.Mathlib.Omega.{arith}
 use lib.Bits.{bitOr}
 use lib.Arith.{digits-lt}
 use lib.Dec.{eqb, ltb}
-use lib.ListN.{length, getD, set, replicate, take, drop, length-set, length-replicate, length-append, length-drop, length-take, take-append-drop, List·getD-eq-default}
-use lib.Seq.{getD-set-same, getD-set-other, getD-drop, getD-take, getD-append-seam, set-append-seam, drop-drop, length-take-le, ext-getD}
+use lib.ListN.{length, getD, set, replicate, take, drop, length-set, length-replicate, length-append, length-drop}
+use lib.ListN.{length-take, take-append-drop, List·getD-eq-default}
+use lib.Seq.{getD-set-same, getD-set-other, getD-drop, getD-take, getD-append-seam, set-append-seam, drop-drop}
+use lib.Seq.{length-take-le, ext-getD}
 use borrow.Author.Tests.{ltb-true, ltb-false, eqb-true, eqb-false}
 use Rattle.rules.specs.Values.{pick, when}
 use Rattle.rules.specs.Drawings.{raiseRow, raiseRows}
 use Rattle.rules.specs.Pictures.{stride, byteOf, rowBytes, bitsOf}
 use Rattle.picture.specs.Bits.{bit, pixel, rowByte, markRow, markAt, Within, Marked, Shows}
 use Rattle.picture.proofs.BitBytes.{bit-zero, row-byte-bits}
-use Rattle.picture.proofs.BitMarks.{marked-or, mark-none, mark-off, mark-apart, mark-in, mark-past, mark-append, mark-place}
+use Rattle.picture.proofs.BitMarks.{marked-or, mark-none, mark-off, mark-apart, mark-in, mark-past, mark-append}
+use Rattle.picture.proofs.BitMarks.{mark-place}
 
 -- Heights after a row of samples.
 abbrev raised : ℕ → List ℕ → List ℕ
@@ -105,7 +108,8 @@ marked-shows w n a i bs b b′ h m k s =
       pixels = length-mark (a * w + 8 * i) bs h ∙ s .pixels;
       bits =
           λ y c j l o q.
-          let r : y * stride w + c < length b = omega (arith, s .size, digits-lt {q = y} {m = n} {r = c} {c = stride w} l o) in
+          let r : y * stride w + c < length b = omega
+          (arith, s .size, digits-lt {q = y} {m = n} {r = c} {c = stride w} l o) in
           k .bits (y * stride w + c) j r q
           ∙ ap₂ max (s .bits y c j l o q) (mark-bit (stride w) a i y c j bs o q (omega arith))
           ∙ sym (mark-pixel w n a (8 * i) (8 * c + j) y bs h (s .pixels) l m);

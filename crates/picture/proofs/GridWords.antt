@@ -71,7 +71,8 @@ steps-bounded i (negsuc c) h f =
     let b = negative-bounded (4294967295 * 2147483648) (i * suc c) k in
     record { above = omega arith; under = b .under }
 
-bounded-sum : (o p : ℤ) → Bounded 2147483647 2147483648 o → Bounded (4294967295 * 2147483647) (4294967295 * 2147483648) p
+bounded-sum : (o p : ℤ) → Bounded 2147483647 2147483648 o → Bounded (4294967295 * 2147483647) (4294967295 * 2147483648)
+    p
     → Bounded 9223372036854775807 9223372036854775808 (o +ℤ p)
 bounded-sum o p b d = by (o +ℤ p) (sum-parts o p)
   where

@@ -34,7 +34,8 @@ clear-ends {h₀} {i} {h} l a =
     let e : i ≡ length h₀ = omega arith in
     a .same ∙ rw (e, drop-length h₀, append-nil)
 
--- A loop along a row is at i and ends at end, within size heights. What the definition makes of the rest from here, `rest`,
+-- A loop along a row is at i and ends at end, within size heights. What the definition makes of the rest from here,
+-- `rest`,
 -- is what it makes of the whole from the start.
 pub record Along {A : Type 0} (size end i : ℕ) (rest whole : A) : Type 0 where
   pub before : i ≤ end
@@ -130,7 +131,8 @@ module _ {left width from count : ℕ} {whole : List ℕ} (z : ℕ) (h : List �
   raise-first l = sym (ap (λ n. raiseRows n width from count z h) (first-row left l)) ∙ d .same
 
   pub raise-rows-next : (r : List ℕ) → 0 < left → r ≡ raiseRow count from z h → length r ≡ length h
-      → Down (left - 1) width (from + width) count (length r) (raiseRows (left - 1) width (from + width) count z r) whole
+      → Down (left - 1) width (from + width) count (length r) (raiseRows (left - 1) width (from + width) count z r)
+      whole
   raise-rows-next r l e k = record { fit = rw k (rest-fit (d .fit) l); same = rw e (raise-first l) }
 
 -- The test of rows: the end, a turn, which passes a row, and the end at a row that is too low.

@@ -32,7 +32,8 @@ pub fn stride(width: usize) -> usize
 // Makes the pixels of one byte material where `byte` has a 1.
 fn paint(picture: &mut [u8], at: usize, byte: u8)
     requires { ⌜ at < length (now picture) ⌝ }
-    ensures { λ _. ⌜ now (picture .exit) ≡ set (now (picture .entry)) at (bitOr (getD (now (picture .entry)) at 0) byte) ⌝ }
+    ensures { λ _.
+        ⌜ now (picture .exit) ≡ set (now (picture .entry)) at (bitOr (getD (now (picture .entry)) at 0) byte) ⌝ }
 {
     picture[at] = picture[at] | byte;
 }

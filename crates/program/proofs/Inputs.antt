@@ -20,7 +20,8 @@ use Rattle.picture.specs.Shapes.{gridIn}
 use Rattle.picture.specs.declared.grid.Grid.{Grid}
 use Rattle.program.specs.declared.Drawn.{Drawn}
 use Rattle.program.specs.declared.Said.{Said}
-use Rattle.program.specs.Says.{startingWith, fileIf, layerFault, LayerSays, FileSays, InputSays, OutputSays, ProgramSays}
+use Rattle.program.specs.Says.{startingWith, fileIf, layerFault, LayerSays, FileSays, InputSays, OutputSays}
+use Rattle.program.specs.Says.{ProgramSays}
 
 -- A record that passes is long enough; the tape is what stands behind it.
 pub long-enough : (s : List ℕ) → recordOk s ≡ true → recordLength ≤ length s

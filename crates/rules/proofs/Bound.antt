@@ -8,9 +8,11 @@ use native.Mathlib.Omega.{arith}
 use lib.ListN.{length}
 use Rattle.rules.specs.Values.{pick}
 use Rattle.rules.specs.Tapes.{Tape}
-use Rattle.rules.specs.Drawings.{Grid, solid, Region, State, over, children, fold, counted, shortTape, visit, sides, flatBound, solidBound, partOf}
+use Rattle.rules.specs.Drawings.{Grid, solid, Region, State, over, children, fold, counted, shortTape, visit}
+use Rattle.rules.specs.Drawings.{sides, flatBound, solidBound, partOf}
 use Rattle.rules.proofs.Short.{short-length}
-use Rattle.rules.proofs.Regions.{Placed, Each, Divides, children-placed, children-flat, children-solid, Steps, steps-flat, steps-solid}
+use Rattle.rules.proofs.Regions.{Placed, Each, Divides, children-placed, children-flat, children-solid, Steps}
+use Rattle.rules.proofs.Regions.{steps-flat, steps-solid}
 use Rattle.rules.proofs.Visit.{visit-by-case, sample-by-case}
 
 -- The regions of side n in one of side a, at most; and the runs in a region of side a, itself included.
@@ -65,7 +67,8 @@ product-most k k′ c x y h e =
 pub visit-most : (ns : List ℕ) (a : ℕ) → Steps a ns → (t : Tape) (g : Grid) (r : Region) (s : State) → r .long ≡ a
     → visit ns t g r s .clauses ≤ s .clauses + runs (solid g) a ns * length (t .clauses)
 visit-most [] a d t g r s e =
-    sample-by-case (λ u. u .clauses ≤ s .clauses + 1 * length (t .clauses)) t g r s (λ h. omega arith) (λ h. omega arith)
+    sample-by-case (λ u. u .clauses ≤ s .clauses + 1 * length (t .clauses)) t g r s (λ h. omega arith)
+    (λ h. omega arith)
     (λ h. omega arith)
 visit-most (n ∷ ns) a d t g r s e =
     let k = most (solid g) a n in

@@ -77,7 +77,12 @@ module _ (t : Tape) (g : Grid) where
   unfolding rowsFrom
   rows-length zero j = omega arith
   rows-length (suc n) j =
-      omega (arith, length-append (rowFrom (g .width) 0 j t g) (rowsFrom n (suc j) t g), row-length (g .width) 0 j, rows-length n (suc j))
+      omega (
+        arith,
+        length-append (rowFrom (g .width) 0 j t g) (rowsFrom n (suc j) t g),
+        row-length (g .width) 0 j,
+        rows-length n (suc j),
+      )
 
   rows-at : (n j p x y k : ℕ) → x < g .width → y < n → p ≡ y * g .width + x → k ≡ j + y
       → getD (rowsFrom n j t g) p 0 ≡ columnFrom (layers g) t g x k
@@ -87,7 +92,8 @@ module _ (t : Tape) (g : Grid) where
       let a : p ≡ x = omega arith in
       let b : k ≡ j = omega arith in
       rw (a, b)
-      (List·getD-append (rowFrom (g .width) 0 j t g) (rowsFrom n (suc j) t g) 0 x (omega (arith, row-length (g .width) 0 j))
+      (List·getD-append (rowFrom (g .width) 0 j t g) (rowsFrom n (suc j) t g) 0 x
+      (omega (arith, row-length (g .width) 0 j))
       ∙ row-at (g .width) 0 j x x l (omega arith))
   rows-at (suc n) j p x (suc y) k l m e d =
       let a : p ≡ length (rowFrom (g .width) 0 j t g) + (y * g .width + x) = omega (arith, row-length (g .width) 0 j) in
@@ -117,7 +123,8 @@ spot w n p l =
       y-in = div-lt-iff-lt-mul (positive w n p l) .1 (rw (mul-comm w n) at l);
     }
 
-pub drawn-raised : (t : Tape) (g : Grid) → Fits g → Raised (Hit t g whole) (replicate (g .width * g .height) 0) (drawn t g)
+pub drawn-raised : (t : Tape) (g : Grid) → Fits g → Raised (Hit t g whole) (replicate (g .width * g .height) 0)
+    (drawn t g)
 unfolding drawn
 drawn-raised t g f =
     record {
@@ -136,7 +143,8 @@ drawn-raised t g f =
         → getD (drawn t g) p 0 ≡ topFrom 0 (layers g) t g x y
     pixel p x y l m e = rows-at t g (g .height) 0 p x y y l m e (omega arith) ∙ column-top (layers g) t g x y
 
-    by-spot : (p b : ℕ) → ((z : ℕ) → Hit t g whole p z → z < b) → Spot (g .width) (g .height) p → getD (drawn t g) p 0 ≤ b
+    by-spot : (p b : ℕ) → ((z : ℕ) → Hit t g whole p z → z < b) → Spot (g .width) (g .height) p
+        → getD (drawn t g) p 0 ≤ b
     by-spot p b k s =
         rw (pixel p (s .x) (s .y) (s .x-in) (s .y-in) (s .place))
         (top-least 0 (layers g) t g (s .x) (s .y) b (λ z _ l m.

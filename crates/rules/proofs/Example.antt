@@ -1,4 +1,5 @@
--- That no hypothesis of the theory is impossible: tapes and grids, flat and solid, that are accepted, with a cut, a filled
+-- That no hypothesis of the theory is impossible: tapes and grids, flat and solid, that are accepted, with a cut, a
+-- filled
 -- and a skipped region, and what their walks give, by computation alone.
 use mathlib.Core.Path.{_≡_, refl}
 use mathlib.Core.Bool.{Bool, true, false}
@@ -8,10 +9,21 @@ use lib.IntN.{pos}
 use Prim.Native.Nat.{ℕ, _*_}
 use native.Mathlib.Omega.{arith}
 use lib.ListN.{length, take, replicate}
-use Rattle.rules.specs.Values.{isNeg, smaller, larger, sum, difference, product, square, rootFrom, rootOf, unaryValue, binaryValue, valueOf, sumR, differenceR, productR, negR, holdsZero, absoluteR, squareR, rootR, smallerR, largerR, unaryRange, binaryRange, rangeOf, sideBelow, sideAbove, choiceOf}
-use Rattle.rules.specs.Tapes.{Tape, runFrom, valueAt, material, rangeFrom, rangeOver, choicesFrom, reads, isIn, without, onClause, shortFrom, lastOut, shortened, badSlot, badUnused, badConstant, badRead, clauseFault, faultFrom, readClauses, countsOk, signed4, rawIn, rawsFrom, headOk, readTape, rawsOf, readList, tapeBytes, listOf, allBytes, allIn32}
-use Rattle.rules.specs.Drawings.{Grid, solid, sampleAt, gridFault, columnFrom, rowFrom, rowsFrom, drawn, Region, region, lesser, boxOf, state, raiseRow, raiseRows, filled, rowHigh, rowsHigh, hidden, alongX, alongY, alongZ, children, fold, shortTape, onSample, visit, sides, whole, walked, flatBound, partOf, shortAfter, OneOf, Nested, InWalk, lastIn, Tiles}
-use Rattle.rules.specs.Pictures.{byteOf, rowBytes, bitsOf, picture, digitsFrom, head, cleanRow, cleanRows, bitmapFile}
+use Rattle.rules.specs.Values.{isNeg, smaller, larger, sum, difference, product, square, rootFrom, rootOf}
+use Rattle.rules.specs.Values.{unaryValue, binaryValue, valueOf, sumR, differenceR, productR, negR, holdsZero}
+use Rattle.rules.specs.Values.{absoluteR, squareR, rootR, smallerR, largerR, unaryRange, binaryRange, rangeOf}
+use Rattle.rules.specs.Values.{sideBelow, sideAbove, choiceOf}
+use Rattle.rules.specs.Tapes.{Tape, runFrom, valueAt, material, rangeFrom, rangeOver, choicesFrom, reads, isIn}
+use Rattle.rules.specs.Tapes.{without, onClause, shortFrom, lastOut, shortened, badSlot, badUnused, badConstant}
+use Rattle.rules.specs.Tapes.{badRead, clauseFault, faultFrom, readClauses, countsOk, signed4, rawIn, rawsFrom}
+use Rattle.rules.specs.Tapes.{headOk, readTape, rawsOf, readList, tapeBytes, listOf, allBytes, allIn32}
+use Rattle.rules.specs.Drawings.{Grid, solid, sampleAt, gridFault, columnFrom, rowFrom, rowsFrom, drawn, Region}
+use Rattle.rules.specs.Drawings.{region, lesser, boxOf, state, raiseRow, raiseRows, filled, rowHigh, rowsHigh}
+use Rattle.rules.specs.Drawings.{hidden, alongX, alongY, alongZ, children, fold, shortTape, onSample, visit}
+use Rattle.rules.specs.Drawings.{sides, whole, walked, flatBound, partOf, shortAfter, OneOf, Nested, InWalk}
+use Rattle.rules.specs.Drawings.{lastIn, Tiles}
+use Rattle.rules.specs.Pictures.{byteOf, rowBytes, bitsOf, picture, digitsFrom, head, cleanRow, cleanRows}
+use Rattle.rules.specs.Pictures.{bitmapFile}
 use Rattle.rules.proofs.Bytes.{both-ways}
 use Rattle.rules.proofs.Tiles.{demand-3}
 
@@ -80,7 +92,8 @@ twoBytes = headRecord 2 2 (clauseRecord 1 0 0 0 0 (clauseRecord 10 1 0 0 0 []))
 abbrev pub two : Tape
 two = readTape twoBytes .tape
 
--- Whether the low and the high end of a region's range are below 0: both where it is filled, neither where it is skipped,
+-- Whether the low and the high end of a region's range are below 0: both where it is filled, neither where it is
+-- skipped,
 -- the low one where it is cut.
 abbrev pub signs : Tape → Grid → Region → List Bool
 signs t g r = let x = rangeOver t (boxOf g r) in isNeg (x .low) ∷ (isNeg (x .high) ∷ [])
@@ -165,7 +178,14 @@ pub record Computed : Type 0 where
   pub three-heights : walked (three 3) threeSolid .heights ≡ 2 ∷ []
 
 pub computed : Computed
-unfolding Nested OneOf shortAfter allBytes allIn32 listOf rawsOf readList readTape headOk countsOk rawsFrom rawIn signed4 readClauses faultFrom clauseFault badSlot badUnused badConstant badRead gridFault drawn rowsFrom rowFrom columnFrom partOf walked sides visit onSample fold children alongZ alongY alongX hidden rowsHigh rowHigh filled raiseRows raiseRow boxOf lesser sampleAt shortened lastOut shortFrom onClause isIn without reads choicesFrom rangeOver rangeFrom material valueAt runFrom choiceOf sideAbove sideBelow rangeOf binaryRange unaryRange largerR smallerR rootR squareR absoluteR holdsZero negR productR differenceR sumR valueOf binaryValue unaryValue rootOf rootFrom square product difference sum larger smaller bitmapFile cleanRows cleanRow head digitsFrom picture bitsOf rowBytes byteOf
+unfolding Nested OneOf shortAfter allBytes allIn32 listOf rawsOf readList readTape headOk countsOk rawsFrom rawIn
+    signed4 readClauses faultFrom clauseFault badSlot badUnused badConstant badRead gridFault drawn rowsFrom rowFrom
+    columnFrom partOf walked sides visit onSample fold children alongZ alongY alongX hidden rowsHigh rowHigh filled
+    raiseRows raiseRow boxOf lesser sampleAt shortened lastOut shortFrom onClause isIn without reads choicesFrom
+    rangeOver rangeFrom material valueAt runFrom choiceOf sideAbove sideBelow rangeOf binaryRange unaryRange largerR
+    smallerR rootR squareR absoluteR holdsZero negR productR differenceR sumR valueOf binaryValue unaryValue rootOf
+    rootFrom square product difference sum larger smaller bitmapFile cleanRows cleanRow head digitsFrom picture bitsOf
+    rowBytes byteOf
 computed =
     record {
       ten-flat = checked refl refl refl refl refl;

@@ -1,11 +1,16 @@
--- The figures that the scope paper marks to be proved (★), and some of its worded rules at numbers, as rows of one list:
+-- The figures that the scope paper marks to be proved (★), and some of its worded rules at numbers, as rows of one
+-- list:
 -- what a definition gives, and what the paper says.
 use mathlib.Core.Path.{_≡_, refl}
 use mathlib.Core.List.{List, [], _∷_, _++_, map}
 use lib.IntN.{ℤ, pos, negℤ}
 use Prim.Native.Nat.{ℕ}
-use Rattle.rules.specs.Values.{smaller, larger, sum, difference, product, square, rootFrom, rootOf, Clause, Range, range, Box, holdsZero, absoluteR, squareR, rootR, productR, sumR, differenceR, negR, smallerR, largerR, unaryRange, binaryRange, rangeOf, sideBelow, sideAbove, choiceOf}
-use Rattle.rules.specs.Tapes.{Tape, noRange, choicesFrom, reads, isIn, without, onClause, shortFrom, lastOut, shortened, listOf}
+use Rattle.rules.specs.Values.{smaller, larger, sum, difference, product, square, rootFrom, rootOf, Clause, Range}
+use Rattle.rules.specs.Values.{range, Box, holdsZero, absoluteR, squareR, rootR, productR, sumR, differenceR}
+use Rattle.rules.specs.Values.{negR, smallerR, largerR, unaryRange, binaryRange, rangeOf, sideBelow, sideAbove}
+use Rattle.rules.specs.Values.{choiceOf}
+use Rattle.rules.specs.Tapes.{Tape, noRange, choicesFrom, reads, isIn, without, onClause, shortFrom, lastOut}
+use Rattle.rules.specs.Tapes.{shortened, listOf}
 
 -- A row of numbers: a range is its two ends, a tape is its list.
 pub record Row : Type 0 where
@@ -100,5 +105,7 @@ abbrev pub rows : List Row
 rows = starred ++ worded
 
 pub figures : map (λ r. r .given) rows ≡ map (λ r. r .said) rows
-unfolding smaller larger sum difference product square rootFrom rootOf holdsZero absoluteR squareR rootR productR sumR differenceR negR smallerR largerR unaryRange binaryRange rangeOf sideBelow sideAbove choiceOf choicesFrom reads isIn without onClause shortFrom lastOut shortened listOf
+unfolding smaller larger sum difference product square rootFrom rootOf holdsZero absoluteR squareR rootR productR sumR
+    differenceR negR smallerR largerR unaryRange binaryRange rangeOf sideBelow sideAbove choiceOf choicesFrom reads isIn
+    without onClause shortFrom lastOut shortened listOf
 figures = refl

@@ -6,7 +6,8 @@ use Prim.Native.Nat.{ℕ, _+_, _-_, _≤_, _<_}
 use native.Mathlib.Omega.{arith}
 use borrow.Author.Tests.{not-false}
 use Rattle.rules.specs.Values.{pick, when, IsValue, below, reaches, range}
-use Rattle.rules.specs.Drawings.{Grid, at, solid, sampleAt, axisOk, sizesOk, axesOk, gridFault, Region, lesser, boxOf}
+use Rattle.rules.specs.Drawings.{Grid, at, solid, sampleAt, axisOk, sizesOk, axesOk, gridFault, Region, lesser}
+use Rattle.rules.specs.Drawings.{boxOf}
 use Rattle.rules.proofs.Order.{AtMost, Holds, HoldsBox, at-most-refl, value-between, reaches-value, at-rises}
 use Rattle.rules.proofs.Tests.{and-left, and-right, tests-after, last-off}
 use Rattle.rules.proofs.Regions.{Inside, InGrid, lesser-most, lesser-both, Fits, grid-fits}
@@ -60,7 +61,8 @@ box-holds {g} a r x y z i k =
     record {
       xs = axis-holds (a .xs) (r .i) (r .long) x (i .x-from) (i .x-to) (k .x-in);
       ys = axis-holds (a .ys) (r .j) (r .long) y (i .y-from) (i .y-to) (k .y-in);
-      zs = z-holds (solid g) (g .originZ) (g .stepZ) (g .depth) (r .k) (r .long) z (a .zs) (a .z-value) (i .z-from) (i .z-to)
+      zs = z-holds (solid g) (g .originZ) (g .stepZ) (g .depth) (r .k) (r .long) z (a .zs) (a .z-value) (i .z-from)
+          (i .z-to)
           (k .z-in);
     }
 

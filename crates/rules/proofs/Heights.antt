@@ -1,4 +1,5 @@
--- What a visit to a region does to each pixel: its height becomes the larger of the one before and of 1 + the greatest z
+-- What a visit to a region does to each pixel: its height becomes the larger of the one before and of 1 + the greatest
+-- z
 -- index with material in the region; pixels outside are untouched. Nothing here depends on the order of regions.
 use mathlib.Core.Path.{_≡_, sym, ap, _∙_}
 use mathlib.Core.Bool.{true}
@@ -41,7 +42,8 @@ module _ (t : Tape) (g : Grid) (r : Region) (p : ℕ) (q : Pixel g r p) where
       → (r .k ≤ z) × (z < pastZ g r) × (material t (sampleAt g (q .x) (q .y) z) ≡ true)
   hit-layer z i =
       let u = lesser-most (g .width) (r .i + r .long) in
-      let s = same-pixel (g .width) (q .x) (q .y) (i .x) (i .y) (omega arith) (i .in-grid .x-in) (sym (q .place) ∙ i .place) in
+      let s = same-pixel (g .width) (q .x) (q .y) (i .x) (i .y) (omega arith) (i .in-grid .x-in)
+      (sym (q .place) ∙ i .place) in
       (i .inside .z-from, hit-pixel i .1, rw (s .0, s .1) (i .has))
 
   -- A pixel of the region lies in the picture.
@@ -59,7 +61,8 @@ raised-visited {t} {g} {r} {h} {h′} l e a =
     record {
       size = a .size;
       inside = λ p q. at p q;
-      outside = λ p m n. omega (arith, a .from p m, a .least p (getD h p 0) m (omega arith) (λ z i. absurd (n (hit-pixel i .0))));
+      outside = λ p m n. omega
+          (arith, a .from p m, a .least p (getD h p 0) m (omega arith) (λ z i. absurd (n (hit-pixel i .0))));
     }
   where
     at : (p : ℕ) (q : Pixel g r p) → getD h′ p 0 ≡ max (getD h p 0) (topIn t g r (q .x) (q .y))

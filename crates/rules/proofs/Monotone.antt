@@ -5,9 +5,11 @@ use lib.IntN.{ℤ, pos, negsuc, _+ℤ_, _-ℤ_, _*ℤ_, *ℤ-comm, *ℤ-negsuc}
 use Prim.Native.Nat.{ℕ, suc, _*_}
 use native.Mathlib.Nat.{mul-le-mul-right}
 use native.Mathlib.Omega.{arith}
-use Rattle.rules.specs.Values.{pick, IsValue, below, smaller, larger, clamped, floored, sum, difference, product, square, absolute}
+use Rattle.rules.specs.Values.{pick, IsValue, below, smaller, larger, clamped, floored, sum, difference, product}
+use Rattle.rules.specs.Values.{square, absolute}
 use Rattle.rules.proofs.Tests.{of-pick}
-use Rattle.rules.proofs.Order.{up, down, AtMost, at-most-refl, at-most-trans, at-most-antisym, below-at-most, not-below}
+use Rattle.rules.proofs.Order.{up, down, AtMost, at-most-refl, at-most-trans, at-most-antisym, below-at-most}
+use Rattle.rules.proofs.Order.{not-below}
 use Rattle.rules.proofs.Order.{sum-rises, neg-falls, neg-up, neg-down}
 
 -- Clamping and rounding down.
@@ -78,7 +80,8 @@ of-larger P a b h k = of-pick P (below a b) k h
 
 pub smaller-rises : {a b c d : ℤ} → AtMost a c → AtMost b d → AtMost (smaller a b) (smaller c d)
 smaller-rises {a} {b} {c} {d} h k =
-    of-smaller (λ z. AtMost (smaller a b) z) c d (at-most-trans (smaller-left a b) h) (at-most-trans (smaller-right a b) k)
+    of-smaller (λ z. AtMost (smaller a b) z) c d (at-most-trans (smaller-left a b) h)
+    (at-most-trans (smaller-right a b) k)
 
 pub larger-rises : {a b c d : ℤ} → AtMost a c → AtMost b d → AtMost (larger a b) (larger c d)
 larger-rises {a} {b} {c} {d} h k =
@@ -178,8 +181,11 @@ pub product-corners : (l h m k a d : ℤ) → AtMost l a → AtMost a h → AtMo
 product-corners l h m k a d u v w x =
     let b = product-between l h a d u v in
     let p = between-right m k d l w x in
-    let q = between-right m k d h w x in
-    (at-most-trans (smaller-rises (p .low) (q .low)) (b .low), at-most-trans (b .high) (larger-rises (p .high) (q .high)))
+    let q = between-right m k d h w x in (
+      at-most-trans (smaller-rises (p .low) (q .low)) (b .low),
+      at-most-trans (b .high)
+          (larger-rises (p .high) (q .high)),
+    )
 
 -- Squares.
 pub square-value : (z : ℤ) → IsValue (square z)

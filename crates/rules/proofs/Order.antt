@@ -145,8 +145,10 @@ within-holds z r e k =
     record {
       low-value = reaches-value (r .low) (and-left (reaches (r .low)) (reaches (r .high)) k);
       high-value = reaches-value (r .high) (and-right (reaches (r .low)) (reaches (r .high)) k);
-      above = not-below z (r .low) (not-true (below z (r .low)) (and-left (not (below z (r .low))) (not (below (r .high) z)) e));
-      under = not-below (r .high) z (not-true (below (r .high) z) (and-right (not (below z (r .low))) (not (below (r .high) z)) e));
+      above = not-below z (r .low)
+          (not-true (below z (r .low)) (and-left (not (below z (r .low))) (not (below (r .high) z)) e));
+      under = not-below (r .high) z
+          (not-true (below (r .high) z) (and-right (not (below z (r .low))) (not (below (r .high) z)) e));
     }
 
 pub in-box : (b : Box) (s : Sample) → inBox s b ≡ true → boxOk b ≡ true → HoldsBox b s
@@ -161,7 +163,8 @@ in-box b s e k =
     record {
       xs = within-holds (s .x) (b .xs) (and-left x (y && z) e) (and-left p (q && r) k);
       ys = within-holds (s .y) (b .ys) (and-left y z (and-right x (y && z) e)) (and-left q r (and-right p (q && r) k));
-      zs = within-holds (s .z) (b .zs) (and-right y z (and-right x (y && z) e)) (and-right q r (and-right p (q && r) k));
+      zs = within-holds (s .z) (b .zs) (and-right y z (and-right x (y && z) e))
+          (and-right q r (and-right p (q && r) k));
     }
 
 -- The signs that decide a region.

@@ -12,7 +12,8 @@ use lib.ListN.{length, getD, set, length-set}
 use lib.Seq.{getD-set-same, getD-set-other}
 use borrow.Author.Tests.{ltb-true, ltb-false, leb-true}
 use Rattle.rules.specs.Values.{pick}
-use Rattle.rules.specs.Drawings.{Grid, solid, Region, pastX, pastY, pastZ, raiseRow, raiseRows, filled, rowHigh, rowsHigh, hidden}
+use Rattle.rules.specs.Drawings.{Grid, solid, Region, pastX, pastY, pastZ, raiseRow, raiseRows, filled, rowHigh}
+use Rattle.rules.specs.Drawings.{rowsHigh, hidden}
 use Rattle.rules.proofs.Tests.{and-left, and-right, of-pick}
 use Rattle.rules.proofs.Raised.{Raised, unchanged, joined, same-set}
 
@@ -80,7 +81,8 @@ filled-both : {P Q R : ℕ → Type 0} {z : ℕ} {h m h′ : List ℕ}
     → Raised (λ q k. P q × (k < z)) h m → Raised (λ q k. Q q × (k < z)) m h′
     → ((q : ℕ) → R q → P q ⊎ Q q) → ((q : ℕ) → P q → R q) → ((q : ℕ) → Q q → R q) → Raised (λ q k. R q × (k < z)) h h′
 filled-both {P} {Q} {R} {z} a b split left right =
-    joined a b (λ q k i. go k (i .1) (split q (i .0))) (λ q k i. (left q (i .0), i .1)) (λ q k i. (right q (i .0), i .1))
+    joined a b (λ q k i. go k (i .1) (split q (i .0))) (λ q k i. (left q (i .0), i .1))
+    (λ q k i. (right q (i .0), i .1))
   where
     go : {q : ℕ} (k : ℕ) → k < z → P q ⊎ Q q → (P q × (k < z)) ⊎ (Q q × (k < z))
     go k l (inl i) = inl (i, l)
@@ -131,7 +133,8 @@ pub rows-high : (n w p m z : ℕ) (h : List ℕ) → rowsHigh n w p m z h ≡ tr
 unfolding rowsHigh
 rows-high zero w p m z h e q i = absurd (omega arith)
 rows-high (suc n) w p m z h e q i =
-    go (rows-high n w (p + w) m z h (and-right (rowHigh m p z h) (rowsHigh n w (p + w) m z h) e) q) (rows-first n w p m q i)
+    go (rows-high n w (p + w) m z h (and-right (rowHigh m p z h) (rowsHigh n w (p + w) m z h) e) q)
+    (rows-first n w p m q i)
   where
     go : (InRows w (p + w) n m q → z ≤ getD h q 0) → InRow p m q ⊎ InRows w (p + w) n m q → z ≤ getD h q 0
     go rest (inl a) = row-high m p z h (and-left (rowHigh m p z h) (rowsHigh n w (p + w) m z h) e) q a
@@ -169,7 +172,8 @@ pixel-row g r q i = go (i .y - r .j) (omega arith)
     go : (d : ℕ) → i .y ≡ r .j + d
         → InRows (g .width) (r .j * g .width + r .i) (pastY g r - r .j) (pastX g r - r .i) q
     go d e =
-        let f : i .y * g .width ≡ r .j * g .width + d * g .width = ap (λ v. v * g .width) e ∙ add-mul (r .j) d (g .width) in
+        let f : i .y * g .width ≡ r .j * g .width + d * g .width = ap (λ v. v * g .width) e ∙ add-mul (r .j) d
+        (g .width) in
         record { row = d; row-in = omega arith; start = omega arith; end = omega arith }
 
 -- Filling a region.
@@ -186,5 +190,6 @@ pub hidden-high : (g : Grid) (r : Region) (h : List ℕ) → hidden g r h ≡ tr
 unfolding hidden
 hidden-high g r h e q i =
     rows-high (pastY g r - r .j) (g .width) (r .j * g .width + r .i) (pastX g r - r .i) (pastZ g r) h
-    (and-right (solid g) (rowsHigh (pastY g r - r .j) (g .width) (r .j * g .width + r .i) (pastX g r - r .i) (pastZ g r) h) e)
+    (and-right (solid g)
+    (rowsHigh (pastY g r - r .j) (g .width) (r .j * g .width + r .i) (pastX g r - r .i) (pastZ g r) h) e)
     q (pixel-row g r q i)

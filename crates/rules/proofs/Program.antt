@@ -1,4 +1,5 @@
--- The program: the paper's figures of it, computed; what it reads decides as the whole input would; and its file is that
+-- The program: the paper's figures of it, computed; what it reads decides as the whole input would; and its file is
+-- that
 -- of the full drawing.
 use mathlib.Core.Path.{_≡_, refl, sym, ap, _∙_, subst}
 use mathlib.Core.Bool.{Bool, true, false, not}
@@ -10,11 +11,21 @@ use lib.Dec.{eqb, leb}
 use lib.ListN.{length, getD, set, take, drop, length-drop}
 use lib.Seq.{length-take-le, take-all}
 use borrow.Author.Tests.{leb-true, leb-false, eqb-true, le-ltb, le-leb, ne-eqb}
-use Rattle.rules.specs.Values.{pick, smaller, larger, sum, difference, product, square, unaryValue, binaryValue, valueOf, sumR, differenceR, productR, negR, holdsZero, absoluteR, squareR, rootR, smallerR, largerR, unaryRange, binaryRange, rangeOf, sideBelow, sideAbove, choiceOf}
-use Rattle.rules.specs.Tapes.{clauseLimit, Got, bad, word, two, four, runFrom, valueAt, material, rangeFrom, rangeOver, choicesFrom, reads, isIn, without, onClause, shortFrom, lastOut, shortened, badSlot, badUnused, badConstant, badRead, clauseFault, faultFrom, readClauses, countsOk, signed4, rawIn, rawsFrom, headOk, readTape}
-use Rattle.rules.specs.Drawings.{Grid, solid, drawn, sampleAt, gridFault, lesser, boxOf, raiseRow, raiseRows, filled, rowHigh, rowsHigh, hidden, alongX, alongY, alongZ, children, fold, onSample, visit, sides, walked}
-use Rattle.rules.specs.Pictures.{byteOf, rowBytes, bitsOf, picture, digitsFrom, head, cleanRow, cleanRows, bitmapFile, highFirst, heightFile}
-use Rattle.rules.specs.Program.{recordLength, gridRecord, tapeAfter, longestInput, inputLimit, recordOk, tooLarge, programLines, programFault, programPlace, fileOf, Output, programOf}
+use Rattle.rules.specs.Values.{pick, smaller, larger, sum, difference, product, square, unaryValue, binaryValue}
+use Rattle.rules.specs.Values.{valueOf, sumR, differenceR, productR, negR, holdsZero, absoluteR, squareR, rootR}
+use Rattle.rules.specs.Values.{smallerR, largerR, unaryRange, binaryRange, rangeOf, sideBelow, sideAbove}
+use Rattle.rules.specs.Values.{choiceOf}
+use Rattle.rules.specs.Tapes.{clauseLimit, Got, bad, word, two, four, runFrom, valueAt, material, rangeFrom}
+use Rattle.rules.specs.Tapes.{rangeOver, choicesFrom, reads, isIn, without, onClause, shortFrom, lastOut}
+use Rattle.rules.specs.Tapes.{shortened, badSlot, badUnused, badConstant, badRead, clauseFault, faultFrom}
+use Rattle.rules.specs.Tapes.{readClauses, countsOk, signed4, rawIn, rawsFrom, headOk, readTape}
+use Rattle.rules.specs.Drawings.{Grid, solid, drawn, sampleAt, gridFault, lesser, boxOf, raiseRow, raiseRows}
+use Rattle.rules.specs.Drawings.{filled, rowHigh, rowsHigh, hidden, alongX, alongY, alongZ, children, fold}
+use Rattle.rules.specs.Drawings.{onSample, visit, sides, walked}
+use Rattle.rules.specs.Pictures.{byteOf, rowBytes, bitsOf, picture, digitsFrom, head, cleanRow, cleanRows}
+use Rattle.rules.specs.Pictures.{bitmapFile, highFirst, heightFile}
+use Rattle.rules.specs.Program.{recordLength, gridRecord, tapeAfter, longestInput, inputLimit, recordOk, tooLarge}
+use Rattle.rules.specs.Program.{programLines, programFault, programPlace, fileOf, Output, programOf}
 use Rattle.rules.proofs.Lines.{each-line}
 use Rattle.rules.proofs.Reading.{Counts, counts-hold}
 use Rattle.rules.proofs.Tiles.{demand-3}
@@ -100,7 +111,13 @@ rows =
     ∷ [])))))))
 
 pub figures : map (λ r. programOf (r .input)) rows ≡ map (λ r. r .said) rows
-unfolding programOf programFault programPlace gridRecord recordOk tooLarge fileOf heightFile highFirst readTape headOk countsOk rawsFrom rawIn signed4 readClauses faultFrom clauseFault badSlot badUnused badConstant badRead gridFault walked sides visit onSample fold children alongZ alongY alongX hidden rowsHigh rowHigh filled raiseRows raiseRow boxOf lesser sampleAt shortened lastOut shortFrom onClause isIn without reads choicesFrom rangeOver rangeFrom material valueAt runFrom choiceOf sideAbove sideBelow rangeOf binaryRange unaryRange largerR smallerR rootR squareR absoluteR holdsZero negR productR differenceR sumR valueOf binaryValue unaryValue square product difference sum larger smaller bitmapFile cleanRows cleanRow head digitsFrom picture bitsOf rowBytes byteOf
+unfolding programOf programFault programPlace gridRecord recordOk tooLarge fileOf heightFile highFirst readTape headOk
+    countsOk rawsFrom rawIn signed4 readClauses faultFrom clauseFault badSlot badUnused badConstant badRead gridFault
+    walked sides visit onSample fold children alongZ alongY alongX hidden rowsHigh rowHigh filled raiseRows raiseRow
+    boxOf lesser sampleAt shortened lastOut shortFrom onClause isIn without reads choicesFrom rangeOver rangeFrom
+    material valueAt runFrom choiceOf sideAbove sideBelow rangeOf binaryRange unaryRange largerR smallerR rootR squareR
+    absoluteR holdsZero negR productR differenceR sumR valueOf binaryValue unaryValue square product difference sum
+    larger smaller bitmapFile cleanRows cleanRow head digitsFrom picture bitsOf rowBytes byteOf
 figures = refl
 
 -- A tape that is too long is refused by its head, given whether its counts are in range.
@@ -157,7 +174,8 @@ cut-off s = go (leb (length s) inputLimit) refl
         let r = drop 40 s in
         let h : inputLimit < length s = leb-false (length s) inputLimit e in
         let n : length r ≡ length s - 40 = length-drop 40 s in
-        let m : length (take (inputLimit - 40) r) ≡ inputLimit - 40 = length-take-le (inputLimit - 40) r (omega arith) in
+        let m : length (take (inputLimit - 40) r) ≡ inputLimit - 40 = length-take-le (inputLimit - 40) r
+        (omega arith) in
         subst (λ (l : List ℕ). programOf (take inputLimit l) ≡ programOf l) (front-whole 40 s (omega arith))
         (too-long s (take (inputLimit - 40) r) r (omega arith) (omega arith))
 

@@ -11,7 +11,8 @@ use lib.Dec.{ltb, leb}
 use lib.ListN.{length, length-append}
 use borrow.Author.Tests.{ltb-true, leb-true, leb-false, lt-ltb, not-false}
 use Rattle.rules.specs.Values.{pick}
-use Rattle.rules.specs.Drawings.{sizeLimit, Grid, solid, layers, Region, region, lesser, pastX, pastY, pastZ, over, alongX, alongY, alongZ, children, sides, whole, sizeOk, sizesOk, gridFault}
+use Rattle.rules.specs.Drawings.{sizeLimit, Grid, solid, layers, Region, region, lesser, pastX, pastY, pastZ}
+use Rattle.rules.specs.Drawings.{over, alongX, alongY, alongZ, children, sides, whole, sizeOk, sizesOk, gridFault}
 use Rattle.rules.proofs.Tests.{and-left, and-right, test-off, of-pick}
 pub use Rattle.rules.specs.Drawings.{Inside, InGrid}
 
@@ -78,8 +79,11 @@ apart-append : (P Q : Region → Type 0) → ((p q : Region) → P p → Q q →
     → (u v : List Region) → Each P u → Each Q v → Apart u → Apart v → Apart (u ++ v)
 unfolding Apart Each
 apart-append P Q f [] v a b c d = d
-apart-append P Q f (q ∷ u) v a b c d =
-    (each-append (Disjoint q) u v (c .0) (each-map Q (Disjoint q) (λ r h. f q r (a .0) h) v b), apart-append P Q f u v (a .1) b (c .1) d)
+apart-append P Q f (q ∷ u) v a b c d = (
+  each-append (Disjoint q) u v (c .0) (each-map Q (Disjoint q) (λ r h. f q r (a .0) h) v b),
+  apart-append P Q f u v
+      (a .1) b (c .1) d,
+)
 
 turned : {p q : Region} → Disjoint p q → Disjoint q p
 turned d = record { never = λ x y z h k. d .never x y z k h }
@@ -181,7 +185,8 @@ module _ (start : Region → ℕ) (index : ℕ → ℕ → ℕ → ℕ)
       apart-joined (Begun start i n) (Behind start (i + n)) (behind i n) up (pick (ltb i past) (f i) [])
       (along up l (i + n) n past f) (each-pick (Begun start i n) (ltb i past) (f i) (λ e. s i))
       (each-along (Behind start (i + n)) up l (i + n) n past f
-      (λ a lo hi p. each-map (Begun start a n) (Behind start (i + n)) (λ q b. record { from = omega arith }) (f a) (s a)))
+      (λ a lo hi p. each-map (Begun start a n) (Behind start (i + n)) (λ q b. record { from = omega arith }) (f a)
+      (s a)))
       (apart-pick (ltb i past) (f i) (d i)) (apart-along up l (i + n) n past f s d)
 
 -- The three list formers, and the children, in this form.
@@ -294,15 +299,18 @@ cells-length m l r n px py pz =
     length-along true l (r .j) n py _ l (λ b.
     le-trans (length-along true l (r .i) n px (λ a. region a b c n ∷ []) 1 (λ a. omega arith)) (omega arith)))
 
-pub children-flat : (g : Grid) (r : Region) (n l : ℕ) → Divides r n l → solid g ≡ false → length (children g r n) ≤ l * l
+pub children-flat : (g : Grid) (r : Region) (n l : ℕ) → Divides r n l → solid g ≡ false
+    → length (children g r n) ≤ l * l
 children-flat g r n l d e =
     rw (children-cells g r n l d)
     (le-trans (cells-length (pick (solid g) l 1) l r n (pastX g r) (pastY g r) (pastZ g r)) (rw e (omega arith)))
 
-pub children-solid : (g : Grid) (r : Region) (n l : ℕ) → Divides r n l → solid g ≡ true → length (children g r n) ≤ l * l * l
+pub children-solid : (g : Grid) (r : Region) (n l : ℕ) → Divides r n l → solid g ≡ true
+    → length (children g r n) ≤ l * l * l
 children-solid g r n l d e =
     rw (children-cells g r n l d)
-    (le-trans (cells-length (pick (solid g) l 1) l r n (pastX g r) (pastY g r) (pastZ g r)) (rw (e, mul-assoc) (le-refl (l * (l * l)))))
+    (le-trans (cells-length (pick (solid g) l 1) l r n (pastX g r) (pastY g r) (pastZ g r))
+    (rw (e, mul-assoc) (le-refl (l * (l * l)))))
 
 pub children-apart : (g : Grid) (r : Region) (n l : ℕ) → Divides r n l → Apart (children g r n)
 unfolding Each Apart
@@ -318,7 +326,8 @@ children-apart g r n l d =
     (λ a. (tt, tt)))))
 
 -- A child lies inside its region.
-pub inside-child : (g : Grid) (r : Region) (n : ℕ) (q : Region) → Placed g r n q → (x y z : ℕ) → Inside q x y z → Inside r x y z
+pub inside-child : (g : Grid) (r : Region) (n : ℕ) (q : Region) → Placed g r n q → (x y z : ℕ) → Inside q x y z
+    → Inside r x y z
 inside-child g r n q p x y z h = omega arith
 
 -- So each index triple lies in exactly one child.

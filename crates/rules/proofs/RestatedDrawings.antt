@@ -1,5 +1,7 @@
--- Drawings as the paper of formal statements has them, word for word, and each equal to the definition used here. Where text
--- and parts are the same nothing is repeated: the records, `solid`, `layers`, `pastX`, `filled`, `hidden`, `alongX`, `fold`.
+-- Drawings as the paper of formal statements has them, word for word, and each equal to the definition used here. Where
+-- text
+-- and parts are the same nothing is repeated: the records, `solid`, `layers`, `pastX`, `filled`, `hidden`, `alongX`,
+-- `fold`.
 use mathlib.Core.Path.{_≡_, refl, sym, ap, ap₂, _∙_}
 use mathlib.Core.Bool.{Bool, true, false, _&&_, _||_, not}
 use mathlib.Core.List.{List, [], _∷_, _++_, append-assoc}
@@ -14,9 +16,13 @@ use Rattle.rules.specs.Tapes
 use Rattle.rules.specs.Drawings
 use Rattle.rules.specs.Values.{pick, firstOf, when, isNeg, top, Sample, Range, range, Box}
 use Rattle.rules.specs.Tapes.{Tape}
-use Rattle.rules.specs.Drawings.{Grid, solid, layers, Region, region, pastX, pastY, pastZ, State, state, hidden, filled, over, alongX, fold, fillIn, sides}
-use Rattle.rules.proofs.RestatedValues.{range-same, plus, plus-same, times, times-same, size, size-same, below, below-same}
-use Rattle.rules.proofs.RestatedTapes.{countCl, count-same, valueAt, value-at-same, material, material-same, rangeOver, range-over-same, shortened, shortened-same, readTape, read-tape-same}
+use Rattle.rules.specs.Drawings.{Grid, solid, layers, Region, region, pastX, pastY, pastZ, State, state, hidden}
+use Rattle.rules.specs.Drawings.{filled, over, alongX, fold, fillIn, sides}
+use Rattle.rules.proofs.RestatedValues.{range-same, plus, plus-same, times, times-same, size, size-same, below}
+use Rattle.rules.proofs.RestatedValues.{below-same}
+use Rattle.rules.proofs.RestatedTapes.{countCl, count-same, valueAt, value-at-same, material, material-same}
+use Rattle.rules.proofs.RestatedTapes.{rangeOver, range-over-same, shortened, shortened-same, readTape}
+use Rattle.rules.proofs.RestatedTapes.{read-tape-same}
 use Rattle.rules.proofs.Tiles.{demand-3}
 
 -- Samples.
@@ -387,7 +393,8 @@ unfolding Drawings.inAll
 in-all-same s [] = refl
 in-all-same s (b ∷ bs) = cc (in-box-same s b, box-ok-same b, in-all-same s bs)
 
--- Demand 3, as it was first stated, follows from demand 3 as it is stated here, which also speaks of the walk's own regions.
+-- Demand 3, as it was first stated, follows from demand 3 as it is stated here, which also speaks of the walk's own
+-- regions.
 pub record Tiles (t : Tape) : Type 0 where
   pub same-picture : (g : Grid) (isSolid : Bool) → isSolid ≡ solid g → gridFault isSolid g ≡ 0
       → walked t g .heights ≡ drawn t g

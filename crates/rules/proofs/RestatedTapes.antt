@@ -1,5 +1,7 @@
--- Tapes as the paper of formal statements has them, word for word, and each equal to the definition used here. Where text
--- and parts are the same nothing is repeated: `isIn`, `lastOut`, the tests and records of a clause, `rawsFrom`, `rawsOf`, `listOf`.
+-- Tapes as the paper of formal statements has them, word for word, and each equal to the definition used here. Where
+-- text
+-- and parts are the same nothing is repeated: `isIn`, `lastOut`, the tests and records of a clause, `rawsFrom`,
+-- `rawsOf`, `listOf`.
 use mathlib.Core.Path.{_≡_, refl, sym, ap, ap₂, subst₃, _∙_}
 use mathlib.Core.Bool.{Bool, true, false, _&&_, _||_, not}
 use mathlib.Core.List.{List, [], _∷_, _++_, map, append-nil, append-assoc}
@@ -12,7 +14,9 @@ use borrow.Author.Tests.{leb-true, leb-false, le-leb, lt-leb}
 use Rattle.rules.specs.Values
 use Rattle.rules.specs.Tapes
 use Rattle.rules.specs.Values.{pick, firstOf, when, isNeg, Clause, Sample, Range, Box}
-use Rattle.rules.specs.Tapes.{Tape, noRange, isIn, Kept, kept, copyOf, lastOut, Raw, isSlot, isZero, isOpcode, nat, leastWord, usesLeft, usesRight, clauseOf, Got, bad, good, word, rawsFrom, headOk, rawsOf, two, clauseBytes, listOf, allBytes, allIn32}
+use Rattle.rules.specs.Tapes.{Tape, noRange, isIn, Kept, kept, copyOf, lastOut, Raw, isSlot, isZero, isOpcode}
+use Rattle.rules.specs.Tapes.{nat, leastWord, usesLeft, usesRight, clauseOf, Got, bad, good, word, rawsFrom}
+use Rattle.rules.specs.Tapes.{headOk, rawsOf, two, clauseBytes, listOf, allBytes, allIn32}
 use Rattle.rules.proofs.RestatedValues.{valueOf, value-same, rangeOf, range-of-same, choiceOf, choice-same}
 use Rattle.rules.proofs.Reading.{fault-here, fault-after}
 use Rattle.rules.proofs.Bytes.{both-ways}
@@ -226,7 +230,8 @@ abbrev pub shortened : Tape → Box → Tape
 shortened t b =
     record {
       slots = t .slots;
-      clauses = shortFrom (t .clauses) (choicesFrom (t .clauses) b (noRanges (t .slots))) (lastOut (t .clauses)) .clauses;
+      clauses = shortFrom (t .clauses) (choicesFrom (t .clauses) b (noRanges (t .slots)))
+          (lastOut (t .clauses)) .clauses;
     }
 
 pub shortened-same : (t : Tape) (b : Box) → shortened t b ≡ Tapes.shortened t b
@@ -244,10 +249,15 @@ abbrev pub clauseFault : ℕ → List ℕ → Raw → ℕ
 clauseFault n written c =
     let o = nat (c .opcode) in
     firstOf (when (not (isOpcode (c .opcode))) 5)
-    (firstOf (when (not (isSlot n (c .out) && ((not (usesLeft o) || isSlot n (c .left)) && (not (usesRight o) || isSlot n (c .right))))) 6)
-    (firstOf (when (not ((usesLeft o || isZero (c .left)) && ((usesRight o || isZero (c .right)) && (eqb o 0 || isZero (c .constant))))) 7)
+    (firstOf (when
+    (not (isSlot n (c .out) &&
+    ((not (usesLeft o) || isSlot n (c .left)) && (not (usesRight o) || isSlot n (c .right))))) 6)
+    (firstOf (when
+    (not ((usesLeft o || isZero (c .left)) &&
+    ((usesRight o || isZero (c .right)) && (eqb o 0 || isZero (c .constant))))) 7)
     (firstOf (when (eqb o 0 && leastWord (c .constant)) 8)
-    (when ((usesLeft o && not (isIn (nat (c .left)) written)) || (usesRight o && not (isIn (nat (c .right)) written))) 9))))
+    (when ((usesLeft o && not (isIn (nat (c .left)) written)) || (usesRight o && not (isIn (nat (c .right)) written)))
+    9))))
 
 pub clause-fault-same : (n : ℕ) (written : List ℕ) (c : Raw) → clauseFault n written c ≡ Tapes.clauseFault n written c
 unfolding Tapes.clauseFault Tapes.badSlot Tapes.badUnused Tapes.badConstant Tapes.badRead
@@ -295,7 +305,8 @@ clauses-from-same n i written cs (r ∷ rs) =
     go : (t : Bool) → eqb f 0 ≡ t
         → clausesFrom n (suc i) (nat (r .out) ∷ written) (cs ++ (clauseOf r ∷ [])) rs
         ≡ gotFrom n (cs ++ (clauseOf r ∷ []) ++ map clauseOf rs) (Tapes.faultFrom n (suc i) (nat (r .out) ∷ written) rs)
-        → clausesFrom n i written cs (r ∷ rs) ≡ gotFrom n (cs ++ map clauseOf (r ∷ rs)) (Tapes.faultFrom n i written (r ∷ rs))
+        → clausesFrom n i written cs (r ∷ rs) ≡ gotFrom n (cs ++ map clauseOf (r ∷ rs))
+        (Tapes.faultFrom n i written (r ∷ rs))
     go true e h =
         clauses-after n i written cs r rs (rw (clause-fault-same n written r) e)
         ∙ h

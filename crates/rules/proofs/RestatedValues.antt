@@ -1,4 +1,5 @@
--- Values and ranges as the paper of formal statements has them, word for word, and each equal to the definition used here.
+-- Values and ranges as the paper of formal statements has them, word for word, and each equal to the definition used
+-- here.
 -- Where text and parts are the same nothing is repeated: `pick`, `isNeg`, `top`, `rootFrom`, the records.
 use mathlib.Core.Path.{_≡_, refl, sym, ap, ap₂, _∙_}
 use mathlib.Core.Bool.{Bool, true, false, _&&_, not}
@@ -245,7 +246,8 @@ four-larger a b c d = larger-same (larger a b) (larger c d) ∙ ap₂ Values.lar
 
 abbrev fourEnds : ℤ → ℤ → ℤ → ℤ → Range
 fourEnds a b c d =
-    range (Values.smaller (Values.smaller a b) (Values.smaller c d)) (Values.larger (Values.larger a b) (Values.larger c d))
+    range (Values.smaller (Values.smaller a b) (Values.smaller c d))
+    (Values.larger (Values.larger a b) (Values.larger c d))
 
 pub product-range-same : (r s : Range) → productR r s ≡ Values.productR r s
 unfolding Values.productR

@@ -71,7 +71,11 @@ unfolding rootOf
 root-value (pos a) v =
     let m = 65536 * a in
     record {
-      bound = omega (arith, root-rises m m (rootFrom 24 0 m) 16777215 (omega arith) (of-value a (v .bound) .from) (omega arith));
+      bound = omega (
+        arith,
+        root-rises m m (rootFrom 24 0 m) 16777215 (omega arith) (of-value a (v .bound) .from)
+            (omega arith),
+      );
     }
 root-value (negsuc a) v = record { bound = omega arith }
 

@@ -1,4 +1,5 @@
--- The samples of a region that have material: what filling or passing over the region means by them, and when it is right.
+-- The samples of a region that have material: what filling or passing over the region means by them, and when it is
+-- right.
 use mathlib.Core.Path.{_≡_, ap, sym, _∙_}
 use mathlib.Core.Bool.{Bool, true, false, false≢true}
 use mathlib.Core.List.{List}
@@ -85,7 +86,8 @@ full-top {t} {g} {r} f b l p z h =
 pub fill-full : {t : Tape} {g : Grid} {r : Region} → Full t g r → Begins g r → 1 ≤ r .long → (h : List ℕ)
     → Raised (Hit t g r) h (filled g r h)
 fill-full {t} {g} {r} f b l h =
-    same-tops (fill-raised g r h) (full-top f b l) (λ p z i. record { layer = z; is-in = hit-pixel i; high = omega arith })
+    same-tops (fill-raised g r h) (full-top f b l)
+    (λ p z i. record { layer = z; is-in = hit-pixel i; high = omega arith })
 
 pub skip-empty : {t : Tape} {g : Grid} {r : Region} → Empty t g r → (h : List ℕ) → Raised (Hit t g r) h h
 skip-empty e h =

@@ -15,7 +15,8 @@ tiles t good =
     record {
       same-picture = λ g isSolid e k. Walk.same-picture t good g isSolid e k;
       same-value = λ bs s h. Short.same-value t good bs s h;
-      same-value-in-walk = λ g isSolid e f rs p i j k n h. Nested.same-value-in-walk t good g isSolid e f rs p i j k n h;
+      same-value-in-walk = λ g isSolid e f rs p i j k n h. Nested.same-value-in-walk t good g isSolid e f rs p i j k n
+          h;
       in-range = λ b s h k. holds-within (Runs.in-range t good b s (in-box b s h k));
       part-flat = λ g r s e k l. Bound.part-flat t g r s e l;
       part-solid = λ g r s e k l. Bound.part-solid t g r s e l;

@@ -5,7 +5,8 @@ use mathlib.Core.List.{List, [], _∷_}
 use Prim.Native.Nat.{ℕ}
 use Rattle.rules.specs.Values.{isNeg}
 use Rattle.rules.specs.Tapes.{Tape, material, rangeOver}
-use Rattle.rules.specs.Drawings.{Grid, sampleAt, Region, boxOf, State, hidden, children, fold, counted, fillIn, shortTape, onSample, visit}
+use Rattle.rules.specs.Drawings.{Grid, sampleAt, Region, boxOf, State, hidden, children, fold, counted, fillIn}
+use Rattle.rules.specs.Drawings.{shortTape, onSample, visit}
 
 pub visit-hidden : (ns : List ℕ) (t : Tape) (g : Grid) (r : Region) (s : State) → hidden g r (s .heights) ≡ true
     → visit ns t g r s ≡ s

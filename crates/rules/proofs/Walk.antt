@@ -10,14 +10,18 @@ use native.Mathlib.Nat.{mul-le-mul}
 use lib.ListN.{length, replicate}
 use Rattle.rules.specs.Values.{pick}
 use Rattle.rules.specs.Tapes.{Tape, material}
-use Rattle.rules.specs.Drawings.{Grid, solid, sampleAt, gridFault, drawn, Region, State, state, over, children, fold, counted, shortTape, visit, sides, whole, walked}
+use Rattle.rules.specs.Drawings.{Grid, solid, sampleAt, gridFault, drawn, Region, State, state, over, children}
+use Rattle.rules.specs.Drawings.{fold, counted, shortTape, visit, sides, whole, walked}
 use Rattle.rules.proofs.Runs.{Good}
 use Rattle.rules.proofs.Short.{short-good}
-use Rattle.rules.proofs.Regions.{Inside, InGrid, Begins, Placed, Each, Some, here, there, each-map, Divides, children-placed, children-cover, inside-child, Steps, steps-sides, tiles-placed, tiles-cover}
+use Rattle.rules.proofs.Regions.{Inside, InGrid, Begins, Placed, Each, Some, here, there, each-map, Divides}
+use Rattle.rules.proofs.Regions.{children-placed, children-cover, inside-child, Steps, steps-sides, tiles-placed}
+use Rattle.rules.proofs.Regions.{tiles-cover}
 use Rattle.rules.proofs.Visit.{visit-by-case, sample-by-case}
 use Rattle.rules.proofs.Raised.{Raised, unchanged, joined, same-set, unique}
 use Rattle.rules.proofs.Grids.{Sound, accepted-sound}
-use Rattle.rules.proofs.Samples.{Hit, fill-full, skip-empty, skip-hidden, high-full, low-empty, short-material, one-full, one-empty}
+use Rattle.rules.proofs.Samples.{Hit, fill-full, skip-empty, skip-hidden, high-full, low-empty, short-material}
+use Rattle.rules.proofs.Samples.{one-full, one-empty}
 use Rattle.rules.proofs.Columns.{drawn-raised}
 
 -- One region of a list, taken out.
@@ -48,7 +52,8 @@ fold-raised f P [] a s = unchanged (s .heights) (λ p z i. omega (arith, some-le
 fold-raised f P (q ∷ qs) a s =
     joined (a .0 s) (fold-raised f P qs (a .1) (f q s)) (λ p z i. some-first i) (λ p z i. here i) (λ p z i. there i)
 
--- Regions that lie in r and cover it, in any order, raise by the samples of r, also if they are run with another tape that
+-- Regions that lie in r and cover it, in any order, raise by the samples of r, also if they are run with another tape
+-- that
 -- has the same material there.
 pub parts-raised : (t t′ : Tape) (g : Grid) (r : Region) (n : ℕ) (qs : List Region) → Each (Placed g r n) qs
     → ((x y z : ℕ) → Inside r x y z → InGrid g x y z → Some (λ q. Inside q x y z) qs)
@@ -95,7 +100,8 @@ divided-long r n l d = omega (arith, mul-le-mul (d .some-part) (d .positive), d 
 
 -- A visit to a region raises by the region's samples with material.
 pub visit-raised : (ns : List ℕ) (a : ℕ) → Steps a ns → lastSide a ns ≡ 1 → (g : Grid) → Sound g → (t : Tape) → Good t
-    → (r : Region) → Begins g r → r .long ≡ a → (s : State) → Raised (Hit t g r) (s .heights) (visit ns t g r s .heights)
+    → (r : Region) → Begins g r → r .long ≡ a → (s : State) → Raised (Hit t g r) (s .heights)
+    (visit ns t g r s .heights)
 visit-raised [] a d o g sound t good r b e s =
     sample-by-case (λ u. Raised (Hit t g r) (s .heights) (u .heights)) t g r s (skip-hidden (s .heights))
     (λ h. fill-full (one-full t g r (e ∙ o) h) b (omega arith) (s .heights))
@@ -125,7 +131,8 @@ pub tiles-raised : (t : Tape) → Good t → (g : Grid) → Sound g → (qs : Li
     → ((x y z : ℕ) → InGrid g x y z → Some (λ q. Inside q x y z) qs)
     → (s : State) → Raised (Hit t g whole) (s .heights) (fold (λ r y. visit (sides g) t g r y) qs s .heights)
 tiles-raised t good g sound qs placed cover s =
-    parts-raised t t g whole 64 qs placed (λ x y z i k. cover x y z k) (λ x y z i k. refl) (λ r y. visit (sides g) t g r y)
+    parts-raised t t g whole 64 qs placed (λ x y z i k. cover x y z k) (λ x y z i k. refl)
+    (λ r y. visit (sides g) t g r y)
     (λ q p y. visit-raised (sides g) 64 (steps-sides g) (sides-last g) g sound t good q (p .begins) (p .side) y) s
 
 pub same-tiles : (t : Tape) → Good t → (g : Grid) → Sound g → (qs : List Region) → Each (Placed g whole 64) qs

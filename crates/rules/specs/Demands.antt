@@ -1,4 +1,5 @@
--- The demands that are about the definitions alone: tapes and lists tell the same, and the tile drawing is the full one.
+-- The demands that are about the definitions alone: tapes and lists tell the same, and the tile drawing is the full
+-- one.
 use Rattle.rules.specs.Tapes.{Both-ways}
 use Rattle.rules.specs.Drawings.{Demand-3}
 

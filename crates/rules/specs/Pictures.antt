@@ -7,7 +7,8 @@ use lib.ListN.{getD, take, drop}
 use Rattle.rules.specs.Values.{pick}
 use Rattle.rules.specs.Drawings.{Grid, sizeOk}
 
--- "A flat picture has ceil(width/8) bytes a row; the leftmost pixel is the highest bit, 1 is material, spare bits are 0."
+-- "A flat picture has ceil(width/8) bytes a row; the leftmost pixel is the highest bit, 1 is material, spare bits are
+-- 0."
 abbrev pub stride : ℕ → ℕ
 stride w = (w + 7) / 8
 
@@ -57,7 +58,8 @@ cleanRows (suc n) w bs = cleanRow w (take (stride w) bs) ++ cleanRows n w (drop 
 unfoldable pub bitmapFile : ℕ → ℕ → List ℕ → List ℕ
 bitmapFile w h bs = head 52 w h ++ cleanRows h w bs
 
--- "The height file begins with `50 35 0A`, the same line, then `65535` and a newline, and each height with its high byte
+-- "The height file begins with `50 35 0A`, the same line, then `65535` and a newline, and each height with its high
+-- byte
 -- first."
 unfoldable pub highFirst : List ℕ → List ℕ
 highFirst [] = []

@@ -9,7 +9,8 @@ use Rattle.rules.specs.Tapes.{clauseLimit, placeOf, readTape, word, sign
 use Rattle.rules.specs.Drawings.{Grid, solid, gridFault, walked}
 use Rattle.rules.specs.Pictures.{digitsFrom, picture, bitmapFile, heightFile}
 
--- "It reads a grid record, then the tape: `47 52`, width, height, depth (2 bytes each), three origins, three steps (4 bytes
+-- "It reads a grid record, then the tape: `47 52`, width, height, depth (2 bytes each), three origins, three steps (4
+-- bytes
 -- signed each). Depth 0 here means flat; the third origin is then z and the third step is unread."
 abbrev pub recordLength : ℕ
 recordLength = 32
@@ -97,5 +98,12 @@ programOf s =
     let g = gridRecord s in
     let d = walked (readTape (tapeAfter s) .tape) g in
     pick (eqb n 0)
-    (record { number = 0; place = 0; count = d .clauses; first = fileOf g (d .heights); second = countLine (d .clauses) })
+    (record {
+      number = 0;
+      place = 0;
+      count = d .clauses;
+      first = fileOf g (d .heights);
+      second = countLine
+          (d .clauses);
+    })
     (record { number = n; place = p; count = 0; first = refusedLine n p; second = [] })

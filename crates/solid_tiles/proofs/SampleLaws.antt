@@ -58,7 +58,8 @@ module _ (grid : Grid) (x y z : ℕ) (i : InGrid (grid .depth) grid x y z) where
     z-value = accepted grid true e .z-value refl z (i .z-in)
 
     -- The sample that the code makes.
-    pub sample-same : (s : Sample) → s .x ≡ at (grid .xorigin) (grid .xstep) x → s .y ≡ at (grid .yorigin) (grid .ystep) y
+    pub sample-same : (s : Sample) → s .x ≡ at (grid .xorigin) (grid .xstep) x
+        → s .y ≡ at (grid .yorigin) (grid .ystep) y
         → s .z ≡ at (grid .zorigin) (grid .zstep) z → s ≡ sampleAt (gridIn grid true) x y z
     unfolding sampleAt
     sample-same s hx hy hz = rw (kind true grid e) (samples hx hy hz)

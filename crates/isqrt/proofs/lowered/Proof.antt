@@ -1,4 +1,5 @@
--- `fixed::root::lowered` meets its contract. The number stays within 32 bits, so that its square fits, and falls with each turn.
+-- `fixed::root::lowered` meets its contract. The number stays within 32 bits, so that its square fits, and falls with
+-- each turn.
 use Prim.Native.Nat.{_<_, _^_}
 use native.Mathlib.Omega.{arith}
 use Rattle.isqrt.proofs.Squares.{product-at-most, not-zero}

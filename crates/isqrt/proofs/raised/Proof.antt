@@ -1,4 +1,5 @@
--- `fixed::root::raised` meets its contract. The square stays at most n, so that the number stays below 2^24; it rises with each turn.
+-- `fixed::root::raised` meets its contract. The square stays at most n, so that the number stays below 2^24; it rises
+-- with each turn.
 use Prim.Native.Nat.{_+_, _*_, _-_, _^_, _≤_, _<_}
 use native.Mathlib.Omega.{arith}
 use Rattle.isqrt.proofs.Squares.{product-at-most, root-below}

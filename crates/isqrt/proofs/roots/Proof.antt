@@ -27,8 +27,10 @@ returns c =
     let d = c .before in
     let e = d .before .before .before in
     let s = e .before .before in (
-      handed-on (s .args .low) (d .root-by .result) (search needs) (d .root-by .ok) (d .root-by .ensures) (e .before .positive-part .ensures .1),
-      handed-on (s .args .high) (c .root-by2 .result) (search needs) (c .root-by2 .ok) (c .root-by2 .ensures) (e .positive-part2 .ensures .1),
+      handed-on (s .args .low) (d .root-by .result) (search needs) (d .root-by .ok) (d .root-by .ensures)
+          (e .before .positive-part .ensures .1),
+      handed-on (s .args .high) (c .root-by2 .result) (search needs) (c .root-by2 .ok) (c .root-by2 .ensures)
+          (e .positive-part2 .ensures .1),
     )
 
 pub roots-spec : {M : Type 1} → statement M

@@ -64,11 +64,15 @@ returns : tie.Need-returns
 unfolding product productR
 returns c =
     let products = at-exact-product4 (at-least c) in
-    let start = at-start (at-struct-told (at-struct-told2 (at-exact-product (at-exact-product2 (at-exact-product3 products))))) in
+    let start = at-start
+    (at-struct-told (at-struct-told2 (at-exact-product (at-exact-product2 (at-exact-product3 products))))) in
     let a = start .args .a in
     let b = start .args .b in
-    let f = fit {s = a} (at-struct-told (at-struct-told2 (at-exact-product (at-exact-product2 (at-exact-product3 products)))) .struct-told .given) in
-    let g = fit {s = b} (at-struct-told2 (at-exact-product (at-exact-product2 (at-exact-product3 products))) .struct-told2 .given) in
+    let f = fit {s = a}
+    (at-struct-told
+    (at-struct-told2 (at-exact-product (at-exact-product2 (at-exact-product3 products)))) .struct-told .given) in
+    let g = fit {s = b}
+    (at-struct-told2 (at-exact-product (at-exact-product2 (at-exact-product3 products))) .struct-told2 .given) in
     let p = at-exact-product (at-exact-product2 (at-exact-product3 products)) .exact-product in
     let q = at-exact-product2 (at-exact-product3 products) .exact-product2 in
     let s = at-exact-product3 products .exact-product3 in

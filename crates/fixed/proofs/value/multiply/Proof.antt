@@ -23,7 +23,8 @@ returns c =
     let p = c .before .exact-product in
     let r = c .round in
     back w32 (r .result) (r .ok)
-    (r .ensures ∙ ap rounded (back-two w64 _*ℤ_ (p .result) (p .ok) (p .ensures) (toZ-ofZ (s .fits .a)) (toZ-ofZ (s .fits .b))))
+    (r .ensures
+    ∙ ap rounded (back-two w64 _*ℤ_ (p .result) (p .ok) (p .ensures) (toZ-ofZ (s .fits .a)) (toZ-ofZ (s .fits .b))))
 
 pub multiply-spec : {M : Type 1} → statement M
 multiply-spec = tie.close (tie.spec exact-product-requires round-requires returns)

@@ -56,7 +56,8 @@ row-fits c =
     let a = b .args in
     rw (l .before .stride .ensures)
     (part-fits (now (a .code)) (packedLeft (now (a .code)) (gridIn (a .grid) false)) (stride (a .grid .width))
-    (a .grid .height) 0 (now (a .picture)) (l .loop .picture) (l .loop .j) (l .loop .from) (l .loop .inv) (c .if1 .taken)
+    (a .grid .height) 0 (now (a .picture)) (l .loop .picture) (l .loop .j) (l .loop .from) (l .loop .inv)
+    (c .if1 .taken)
     (omega (arith, b .pre .1 .1)))
 
 draw-row-requires : tie.Need-draw-row-requires Inv-loop μ-loop
@@ -82,7 +83,8 @@ loop-again c =
     let l = t .before .before in
     let a = at-start (at-struct-known l) .args in
     let e = l .before .stride .ensures in
-    next-bytes (now (a .code)) (gridIn (a .grid) false) (now (a .picture)) (l .loop .picture) (l .loop .j) (l .loop .from)
+    next-bytes (now (a .code)) (gridIn (a .grid) false) (now (a .picture)) (l .loop .picture) (l .loop .j)
+    (l .loop .from)
     (l .loop .inv) (t .if1 .taken) (r .last .1 .1 .1 .0) (r .kept .1 .1 .1 .0) (rw e at (r .ensures)) _
     (ap (λ s. l .loop .from + s) e)
 
@@ -101,7 +103,8 @@ returns c =
     let l = e .before .before in
     let b = at-start (at-struct-known l) in
     let a = b .args in
-    flat-drawn (now (a .code)) (gridIn (a .grid) false) (now (a .picture)) (l .loop .picture) (l .loop .j) (l .loop .from)
+    flat-drawn (now (a .code)) (gridIn (a .grid) false) (now (a .picture)) (l .loop .picture) (l .loop .j)
+    (l .loop .from)
     (l .loop .inv) (c .full-count .result) (e .if1 .left) (b .pre .1 .1) (c .full-count .ensures)
 
 pub draw-flat-spec : {M : Type 1} → statement M

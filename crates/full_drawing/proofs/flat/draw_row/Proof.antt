@@ -66,8 +66,10 @@ loop-again c =
     let l = t .before in
     let b = at-start l in
     let a = b .args in
-    next-byte (now (a .code)) (gridIn (a .grid) false) (a .j) (a .from) (now (a .picture)) (l .loop .picture) (l .loop .c)
-    (l .loop .inv) (c .row-byte .result) (c .row-byte .ensures) (omega (arith, t .loop-test .taken, b .pre .1 .0)) (search needs)
+    next-byte (now (a .code)) (gridIn (a .grid) false) (a .j) (a .from) (now (a .picture)) (l .loop .picture)
+    (l .loop .c)
+    (l .loop .inv) (c .row-byte .result) (c .row-byte .ensures) (omega (arith, t .loop-test .taken, b .pre .1 .0))
+    (search needs)
 
 same-length : tie.Need-same-length Inv-loop μ-loop
 same-length c = search needs
@@ -77,7 +79,8 @@ returns c =
     let l = c .before in
     let b = at-start l in
     let a = b .args in
-    rw (b .pre .1 .0) (bytes-put (now (a .code)) (gridIn (a .grid) false) (a .j) (a .from) (now (a .picture)) (l .loop .picture)
+    rw (b .pre .1 .0) (bytes-put (now (a .code)) (gridIn (a .grid) false) (a .j) (a .from) (now (a .picture))
+    (l .loop .picture)
     (l .loop .c) (l .loop .inv) (omega (arith, c .loop-test .left, b .pre .1 .0)))
 
 pub draw-row-spec : {M : Type 1} → statement M

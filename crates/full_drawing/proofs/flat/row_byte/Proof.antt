@@ -95,7 +95,8 @@ loop-again c =
     let t = in-loop (at-struct-told (at-has-material c)) in
     let l = t .before in
     let a = at-start l .args in
-    next-pixels (now (a .code)) (gridIn (a .grid) false) (a .i) (a .j) _ (l .loop .byte) (l .loop .k) (c .with-pixel .result)
+    next-pixels (now (a .code)) (gridIn (a .grid) false) (a .i) (a .j) _ (l .loop .byte) (l .loop .k)
+    (c .with-pixel .result)
     (c .before .has-material .result) (t .loop-test .taken) (l .loop .inv) (said (c .before)) (c .with-pixel .ensures)
 
 returns : tie.Need-returns Inv-loop μ-loop

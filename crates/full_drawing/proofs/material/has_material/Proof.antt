@@ -76,7 +76,8 @@ returns c =
     let a = at-start (at-struct-told (at-sample (at-sample2 c))) .args in
     record {
       material = λ n f.
-          says (tapeIn n (now (a .code))) (toZ-ofZ {w = w32} {z = c .run-values .result} (record { sfits = c .run-values .ok }))
+          says (tapeIn n (now (a .code)))
+          (toZ-ofZ {w = w32} {z = c .run-values .result} (record { sfits = c .run-values .ok }))
           (c .run-values .ensures .value n f) (sample-is (c .before));
     }
 

@@ -45,7 +45,8 @@ loop-again : tie.Need-loop-again Inv-loop μ-loop
 loop-again c =
     let l = c .before .before .before in
     let a = l .before .before .before .args in
-    next-height (now (a .code)) (gridIn (a .grid) true) (a .j) (a .from) (now (a .picture)) (l .loop .picture) (l .loop .i)
+    next-height (now (a .code)) (gridIn (a .grid) true) (a .j) (a .from) (now (a .picture)) (l .loop .picture)
+    (l .loop .i)
     (l .loop .inv) (c .column .result) (c .column .ensures) (c .before .if1 .taken) (search needs)
 
 same-length : tie.Need-same-length Inv-loop μ-loop
@@ -55,7 +56,8 @@ returns : tie.Need-returns Inv-loop μ-loop
 returns c =
     let l = c .before .before in
     let a = l .before .before .before .args in
-    heights-put (now (a .code)) (gridIn (a .grid) true) (a .j) (a .from) (now (a .picture)) (l .loop .picture) (l .loop .i)
+    heights-put (now (a .code)) (gridIn (a .grid) true) (a .j) (a .from) (now (a .picture)) (l .loop .picture)
+    (l .loop .i)
     (l .loop .inv) (c .if1 .left)
 
 pub draw-row-spec : {M : Type 1} → statement M

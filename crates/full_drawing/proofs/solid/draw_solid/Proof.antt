@@ -81,7 +81,8 @@ loop-again c =
     let t = at-then1 (at-draw-row-arg (at-draw-row c)) in
     let l = t .before .before in
     let a = at-start l .args in
-    next-heights (now (a .code)) (gridIn (a .grid) true) (now (a .picture)) (l .loop .picture) (l .loop .j) (l .loop .from)
+    next-heights (now (a .code)) (gridIn (a .grid) true) (now (a .picture)) (l .loop .picture) (l .loop .j)
+    (l .loop .from)
     (l .loop .inv) (t .if1 .taken) (r .last .1 .1 .1 .0) (r .kept .1 .1 .1 .0) (r .ensures) _ refl
 
 full-count-requires : tie.Need-full-count-requires Inv-loop μ-loop
@@ -99,7 +100,8 @@ returns c =
     let l = e .before .before in
     let b = at-start l in
     let a = b .args in
-    solid-drawn (now (a .code)) (gridIn (a .grid) true) (now (a .picture)) (l .loop .picture) (l .loop .j) (l .loop .from)
+    solid-drawn (now (a .code)) (gridIn (a .grid) true) (now (a .picture)) (l .loop .picture) (l .loop .j)
+    (l .loop .from)
     (l .loop .inv) (c .full-count .result) (e .if1 .left) (b .pre .1 .1)
     (c .full-count .ensures
     ∙ ap (λ d. length (now (a .code)) * (a .grid .width * (a .grid .height * d))) (solid-layers (a .grid) (grid-ok b)))

@@ -1,4 +1,5 @@
--- `append::put` meets its contract. The invariant of its loop: the first i bytes of s are written. The measure is what is left of s.
+-- `append::put` meets its contract. The invariant of its loop: the first i bytes of s are written. The measure is what
+-- is left of s.
 -- Assumes nothing.
 use mathlib.Core.Path.{_≡_}
 use Prim.Native.Nat.{_+_, _-_, _≤_}
@@ -35,14 +36,19 @@ loop-less c = omega arith
 
 loop-again : tie.Need-loop-again Inv-loop μ-loop
 loop-again c =
-    let a = c .before .before in
-    (omega arith, omega arith, copy-more (a .before .args .s .now) (a .loop .i) (c .before .before .loop .inv .2) (c .before .loop-test .taken) (omega arith))
+    let a = c .before .before in (
+      omega arith,
+      omega arith,
+      copy-more (a .before .args .s .now) (a .loop .i) (c .before .before .loop .inv .2)
+          (c .before .loop-test .taken) (omega arith),
+    )
 
 same-length : tie.Need-same-length Inv-loop μ-loop
 same-length c = c .before .loop .inv .2 .size
 
 returns : tie.Need-returns Inv-loop μ-loop
-returns c = copy-done (c .before .before .args .s .now) (c .before .loop .i) (c .before .loop .inv .2) (c .loop-test .left)
+returns c = copy-done (c .before .before .args .s .now) (c .before .loop .i) (c .before .loop .inv .2)
+    (c .loop-test .left)
 
 pub put-spec : {M : Type 1} → statement M
 put-spec =

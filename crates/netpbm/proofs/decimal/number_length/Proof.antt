@@ -1,4 +1,5 @@
--- `decimal::number_length` meets its contract. The invariant of its loop: the digits counted and those of the rest are those of
+-- `decimal::number_length` meets its contract. The invariant of its loop: the digits counted and those of the rest are
+-- those of
 -- the number and one more. The measure is the rest.
 -- Assumes nothing.
 use mathlib.Core.Path.{_≡_, ap}
@@ -11,7 +12,8 @@ use Rattle.netpbm.proofs.decimal.number_length.Statement.{statement}
 use Rattle.netpbm.proofs.decimal.number_length.Tie as tie
 
 abbrev Inv-loop : tie.InvT-loop
-Inv-loop v digits₀ rest₀ digits rest = (digits + length (numeral rest) ≡ length (numeral v) + 1) × (1 ≤ digits) × (rest ≤ v)
+Inv-loop v digits₀ rest₀ digits rest = (digits + length (numeral rest) ≡ length (numeral v) + 1) × (1 ≤ digits)
+    × (rest ≤ v)
 
 abbrev μ-loop : tie.MeasureT-loop
 μ-loop v digits₀ rest₀ digits rest = rest

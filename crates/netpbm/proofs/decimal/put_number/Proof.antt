@@ -1,4 +1,5 @@
--- `decimal::put_number` meets its contract. The invariant of its loop: to what stood before it, the digits from the first place to
+-- `decimal::put_number` meets its contract. The invariant of its loop: to what stood before it, the digits from the
+-- first place to
 -- this one are written. The measure is the place.
 -- Assumes nothing.
 use mathlib.Core.Path.{sym}
@@ -16,7 +17,9 @@ use Rattle.netpbm.proofs.decimal.put_number.Statement.{statement}
 use Rattle.netpbm.proofs.decimal.put_number.Tie as tie
 
 abbrev Inv-loop : tie.InvT-loop
-Inv-loop out₀ at v place₀ next₀ out place next = Place v place × ((o : List ℕ) (a : ℕ) → Appends o a (numeral (v / place₀)) out₀ next₀ → Appends o a (numeral (v / place)) out next)
+Inv-loop out₀ at v place₀ next₀ out place next = Place v place
+    × ((o : List ℕ) (a : ℕ) → Appends o a (numeral (v / place₀)) out₀ next₀
+    → Appends o a (numeral (v / place)) out next)
 
 abbrev μ-loop : tie.MeasureT-loop
 μ-loop out₀ at v place₀ next₀ out place next = place
@@ -52,7 +55,11 @@ put-digit-requires c κs =
     omega (arith, least-length (s .args .v) (omega arith))
 
 -- Written up to the loop's place.
-begun : (c : tie.At-loop Inv-loop μ-loop) → Appends (at-start (at-first-place (at-put-digit-arg (at-put-digit (at-slice-known2 c)))) .args .out .now) (at-start (at-first-place (at-put-digit-arg (at-put-digit (at-slice-known2 c)))) .args .at) (numeral (at-start (at-first-place (at-put-digit-arg (at-put-digit (at-slice-known2 c)))) .args .v / c .loop .place)) (c .loop .out) (c .loop .next)
+begun : (c : tie.At-loop Inv-loop μ-loop)
+    → Appends (at-start (at-first-place (at-put-digit-arg (at-put-digit (at-slice-known2 c)))) .args .out .now)
+    (at-start (at-first-place (at-put-digit-arg (at-put-digit (at-slice-known2 c)))) .args .at)
+    (numeral (at-start (at-first-place (at-put-digit-arg (at-put-digit (at-slice-known2 c)))) .args .v
+    / c .loop .place)) (c .loop .out) (c .loop .next)
 begun c =
     let d = at-put-digit (at-slice-known2 c) in
     c .loop .inv .1 _ _ (renamed (sym (digit _ (d .before .before .first-place .ensures .1))) (d .put-digit .ensures))
@@ -75,8 +82,11 @@ loop-again : tie.Need-loop-again Inv-loop μ-loop
 loop-again c =
     let d = c .before .before in
     let l = at-loop d in
-    let place = l .loop .inv .0 in
-    (place-down place (omega arith), λ o a p. renamed (sym (digit-more place (omega arith) (omega arith))) (then (l .loop .inv .1 o a p) (d .put-digit2 .ensures)))
+    let place = l .loop .inv .0 in (
+      place-down place (omega arith),
+      λ o a p. renamed (sym (digit-more place (omega arith) (omega arith)))
+          (then (l .loop .inv .1 o a p) (d .put-digit2 .ensures)),
+    )
 
 same-length : tie.Need-same-length Inv-loop μ-loop
 same-length c = begun (c .before) .size

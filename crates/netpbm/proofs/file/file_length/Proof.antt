@@ -26,7 +26,13 @@ add-result-2 c = search needs
 returns : tie.Need-returns
 returns c k =
     let s = c .before .before .args in
-    omega (arith, length-head k (s .width) (s .height), ap length (as-size (s .width) (omega arith)), ap length (as-size (s .height) (omega arith)))
+    omega (
+      arith,
+      length-head k (s .width) (s .height),
+      ap length (as-size (s .width) (omega arith)),
+      ap length
+          (as-size (s .height) (omega arith)),
+    )
 
 pub file-length-spec : {M : Type 1} → statement M
 file-length-spec =

@@ -14,7 +14,8 @@ same-length : tie.Need-same-length
 same-length c = search needs
 
 returns : tie.Need-returns
-returns c = then (c .before .before .before .before .before .before .put .ensures) (c .before .before .put-sizes .ensures)
+returns c = then (c .before .before .before .before .before .before .put .ensures)
+    (c .before .before .put-sizes .ensures)
 
 pub put-head-spec : {M : Type 1} → statement M
 put-head-spec = tie.close (tie.spec put-requires put-sizes-requires same-length returns)

@@ -1,4 +1,5 @@
--- `netpbm::put_heights` meets its contract. The invariant of its loop: the first i heights are written. The measure is the number left.
+-- `netpbm::put_heights` meets its contract. The invariant of its loop: the first i heights are written. The measure is
+-- the number left.
 -- Assumes nothing.
 use mathlib.Core.Path.{_≡_, ap}
 use Prim.Native.Nat.{_+_, _-_, _*_, _≤_}
@@ -14,7 +15,8 @@ use Rattle.netpbm.proofs.file.put_heights.Statement.{statement}
 use Rattle.netpbm.proofs.file.put_heights.Tie as tie
 
 abbrev Inv-loop : tie.InvT-loop
-Inv-loop out₀ at picture next₀ i₀ out next i = (i ≤ length picture) × (next ≡ at + 2 * i) × Appends out₀ at (highFirst (take i picture)) out next
+Inv-loop out₀ at picture next₀ i₀ out next i = (i ≤ length picture) × (next ≡ at + 2 * i) × Appends out₀ at
+    (highFirst (take i picture)) out next
 
 abbrev μ-loop : tie.MeasureT-loop
 μ-loop out₀ at picture next₀ i₀ out next i = length picture - i
@@ -58,8 +60,12 @@ loop-again c =
     let t = r .before .before .before .before in
     let l = t .before in
     let p = l .before .before .before .args .picture .now in
-    let low = and-mask (getD p (l .loop .i) 0) 8 in
-    (omega arith, omega arith, height-more p (l .loop .i) _ (t .loop-test .taken) low (l .loop .inv .2) (r .put-pair .ensures))
+    let low = and-mask (getD p (l .loop .i) 0) 8 in (
+      omega arith,
+      omega arith,
+      height-more p (l .loop .i) _ (t .loop-test .taken) low (l .loop .inv .2)
+          (r .put-pair .ensures),
+    )
 
 same-length : tie.Need-same-length Inv-loop μ-loop
 same-length c = c .before .loop .inv .2 .size

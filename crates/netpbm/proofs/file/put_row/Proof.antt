@@ -59,7 +59,8 @@ returns c =
     let last = length row - 1 in
     let byte = c .before .shared-slice-known2 .given last in
     renamed
-    (sym (clean-row (s .args .width) row last (c .last-mask .result) (s .pre .0) (s .pre .1 .1 .0) refl (byte .fits) (c .last-mask .ensures)))
+    (sym (clean-row (s .args .width) row last (c .last-mask .result) (s .pre .0) (s .pre .1 .1 .0) refl (byte .fits)
+    (c .last-mask .ensures)))
     (then (p .put .ensures) (one _ _ _ (omega (arith, s .pre, length-front row))))
 
 pub put-row-spec : {M : Type 1} → statement M

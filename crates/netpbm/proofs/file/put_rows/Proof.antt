@@ -1,4 +1,5 @@
--- `netpbm::put_rows` meets its contract. The invariant of its loop: the first y rows are written. The measure is the number of rows left.
+-- `netpbm::put_rows` meets its contract. The invariant of its loop: the first y rows are written. The measure is the
+-- number of rows left.
 -- Assumes nothing.
 use mathlib.Core.Path.{_≡_, ap}
 use Prim.Native.Nat.{_+_, _-_, _*_, _≤_}
@@ -13,7 +14,8 @@ use Rattle.netpbm.proofs.file.put_rows.Statement.{statement}
 use Rattle.netpbm.proofs.file.put_rows.Tie as tie
 
 abbrev Inv-loop : tie.InvT-loop
-Inv-loop out₀ at picture width height row next₀ y₀ out next y = (y ≤ height) × (next ≡ at + y * row) × Appends out₀ at (cleanRows y width picture) out next
+Inv-loop out₀ at picture width height row next₀ y₀ out next y = (y ≤ height) × (next ≡ at + y * row) × Appends out₀ at
+    (cleanRows y width picture) out next
 
 abbrev μ-loop : tie.MeasureT-loop
 μ-loop out₀ at picture width height row next₀ y₀ out next y = height - y
@@ -26,10 +28,17 @@ unfolding cleanRows
 loop-holds c = (omega arith, omega arith, nothing _ _)
 
 -- The row of a turn is within the picture.
-fits : (c : tie.In-loop Inv-loop μ-loop) → c .before .loop .y * stride (c .before .before .before .before .args .width) + stride (c .before .before .before .before .args .width) ≤ length (c .before .before .before .before .args .picture .now)
+fits : (c : tie.In-loop Inv-loop μ-loop) → c .before .loop .y * stride (c .before .before .before .before .args .width)
+    + stride (c .before .before .before .before .args .width) ≤ length
+    (c .before .before .before .before .args .picture .now)
 fits c =
     let s = c .before .before .before .before in
-    omega (arith, s .pre, row-fits (c .before .loop .y) (s .args .height) (stride (s .args .width)) (c .loop-test .taken))
+    omega (
+      arith,
+      s .pre,
+      row-fits (c .before .loop .y) (s .args .height) (stride (s .args .width))
+          (c .loop-test .taken),
+    )
 
 mul-start : tie.Need-mul-start Inv-loop μ-loop
 mul-start c = omega (arith, fits c)

@@ -68,7 +68,8 @@ returns c =
     let s = at-start width .args in
     then
     (renamed (as-size (s .width) (omega arith)) (width .put-number .ensures))
-    (then (space .put .ensures) (then (renamed (as-size (s .height) (omega arith)) (height .put-number2 .ensures)) (end .put2 .ensures)))
+    (then (space .put .ensures)
+    (then (renamed (as-size (s .height) (omega arith)) (height .put-number2 .ensures)) (end .put2 .ensures)))
 
 pub put-sizes-spec : {M : Type 1} → statement M
 put-sizes-spec =

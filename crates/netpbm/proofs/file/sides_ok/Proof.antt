@@ -18,7 +18,8 @@ size-ok-requires-2 c κs = search needs
 returns-2 : tie.Need-returns-2
 returns-2 c =
     let s = c .before .before .before .args in
-    first-side-right (s .width) (s .height) (c .before .before .size-ok .ensures) (c .before .if1 .left) (c .size-ok2 .ensures)
+    first-side-right (s .width) (s .height) (c .before .before .size-ok .ensures) (c .before .if1 .left)
+    (c .size-ok2 .ensures)
 
 pub sides-ok-spec : {M : Type 1} → statement M
 sides-ok-spec = tie.close (tie.spec size-ok-requires returns size-ok-requires-2 returns-2)

@@ -38,7 +38,8 @@ loop-again c =
       omega arith,
       (
         length-set (a .picture) (a .i) 0 ∙ a .inv .1 .0,
-        ap (λ p. set p (a .i) 0) (a .inv .1 .1) ∙ fill-more (a .i) 0 (now (c .before .before .args .picture)) (omega arith),
+        ap (λ p. set p (a .i) 0) (a .inv .1 .1) ∙ fill-more (a .i) 0 (now (c .before .before .args .picture))
+            (omega arith),
       ),
     )
 
@@ -46,7 +47,8 @@ same-length : tie.Need-same-length Inv-loop μ-loop
 same-length c = c .before .loop .inv .1 .0
 
 returns : tie.Need-returns Inv-loop μ-loop
-returns c = cleared (c .before .loop .picture) (now (c .before .before .args .picture)) (c .before .loop .i) (c .before .loop .inv .1 .1) (omega arith)
+returns c = cleared (c .before .loop .picture) (now (c .before .before .args .picture)) (c .before .loop .i)
+    (c .before .loop .inv .1 .1) (omega arith)
 
 pub clear-spec : {M : Type 1} → statement M
 clear-spec =

@@ -1,4 +1,5 @@
--- `bits::fill_rect` meets its contract. The loop's invariant: whatever heights the bytes showed, they now show those with
+-- `bits::fill_rect` meets its contract. The loop's invariant: whatever heights the bytes showed, they now show those
+-- with
 -- the rows passed raised.
 use mathlib.Core.Path.{_≡_, refl, _∙_}
 use mathlib.Core.List.{List}
@@ -72,7 +73,8 @@ loop-again c =
         f .kept .0 ∙ m .inv .1 .0,
         λ n h s.
             rect-shows (a .width) n (a .x) (a .y) (m .j) (a .xend - a .x) (a .x / 8) (m .picture) (f .last .0) h
-            (omega (arith, p .start)) (omega (arith, p .columns, p .some)) (omega arith) (rw (d .stride .ensures) at (f .ensures)) (m .inv .1 .1 n h s),
+            (omega (arith, p .start)) (omega (arith, p .columns, p .some)) (omega arith)
+            (rw (d .stride .ensures) at (f .ensures)) (m .inv .1 .1 n h s),
       ),
     )
 

@@ -1,4 +1,5 @@
--- `bits::fill_row` meets its contract. The loop's invariant: the pixels of the bytes passed are material, and nothing else
+-- `bits::fill_row` meets its contract. The loop's invariant: the pixels of the bytes passed are material, and nothing
+-- else
 -- has changed.
 use mathlib.Core.Path.{_≡_, _∙_, refl}
 use mathlib.Core.Bool.{true}
@@ -41,7 +42,8 @@ loop-again c =
     let a = c .before .before .before .args in
     let m = c .before .loop in (
       omega arith,
-      fill-byte (a .at) (m .i) (now (a .picture)) (m .picture) (omega arith) (omega (arith, m .inv .1 .size)) (m .inv .1),
+      fill-byte (a .at) (m .i) (now (a .picture)) (m .picture) (omega arith) (omega (arith, m .inv .1 .size))
+          (m .inv .1),
     )
 
 add-first-pixels : tie.Need-add-first-pixels Inv-loop μ-loop
@@ -54,7 +56,8 @@ paint-requires : tie.Need-paint-requires Inv-loop μ-loop
 paint-requires c κs = omega (arith, c .before .before .before .loop .inv .1 .size)
 
 same-length : tie.Need-same-length Inv-loop μ-loop
-same-length c = c .before .before .paint .kept .0 ∙ c .before .before .before .before .before .before .loop .inv .1 .size
+same-length c = c .before .before .paint .kept .0
+    ∙ c .before .before .before .before .before .before .loop .inv .1 .size
 
 returns : tie.Need-returns Inv-loop μ-loop
 returns c =

@@ -15,7 +15,8 @@ cast-result-3 : tie.Need-cast-result-3
 cast-result-3 c = read-fits (c .fits .step)
 
 mul-result : tie.Need-mul-result
-mul-result c = product-fits (c .args .origin) (c .args .step) (c .args .i) (c .fits .origin) (c .fits .step) (c .fits .i)
+mul-result c = product-fits (c .args .origin) (c .args .step) (c .args .i) (c .fits .origin) (c .fits .step)
+    (c .fits .i)
 
 add-result : tie.Need-add-result
 add-result c = sample-fits (c .args .origin) (c .args .step) (c .args .i) (c .fits .origin) (c .fits .step) (c .fits .i)

@@ -110,7 +110,8 @@ returns-4 c =
     let a = at-start (at-struct-told (first .before)) .args in
     goes-on (x-ok first)
     (goes-on (y-ok second)
-    (solid-axis (a .solid) (a .grid .zorigin) (a .grid .zstep) (a .grid .depth) _ (at-else3 (at-struct-told7 c) .if3 .left)
+    (solid-axis (a .solid) (a .grid .zorigin) (a .grid .zstep) (a .grid .depth) _
+    (at-else3 (at-struct-told7 c) .if3 .left)
     (c .axis-ok3 .ensures ∙ axis-read _ _ _ (t .zorigin) (t .zstep))))
 
 pub axes-ok-spec : {M : Type 1} → statement M

@@ -30,7 +30,8 @@ first-ok c = passed _ (first-tested (c .before)) (c .if1 .left)
 
 step-tested : (c : tie.Else1) (t : Bool) → ltZ (read w32 (c .before .before .args .step)) (pos 1) ≡ t
     → ltZ (c .before .before .args .step) (pos 1) ≡ t
-step-tested c t e = tested {w = w32} {u = c .before .before .args .step} {v = pos 1} (c .before .before .fits .step) (omega arith) e
+step-tested c t e = tested {w = w32} {u = c .before .before .args .step} {v = pos 1} (c .before .before .fits .step)
+    (omega arith) e
 
 returns : tie.Need-returns
 returns c = stops _ (refused _ (first-tested (c .before)) (c .if1 .taken))
@@ -56,7 +57,8 @@ returns-3 c =
     let f = first .before .before .fits in
     let l = step-tested first false (c .before .before .if2 .left) in
     let r = c .before .along in
-    let last = back w64 (r .result) (r .ok) (r .ensures ∙ at-read (a .origin) (a .step) (a .n - 1) (f .origin) (f .step)) in
+    let last = back w64 (r .result) (r .ok)
+    (r .ensures ∙ at-read (a .origin) (a .step) (a .n - 1) (f .origin) (f .step)) in
     goes-on (first-ok first)
     (goes-on (step (a .step) l)
     (goes-on (step-value (a .step) (f .step) l) (c .is-value2 .ensures ∙ ap reaches last)))

@@ -34,7 +34,8 @@ size-ok-requires-2 : tie.Need-size-ok-requires-2
 size-ok-requires-2 c κs = search needs
 
 returns-2 : tie.Need-returns-2
-returns-2 c = goes-on (width-ok (c .before .before)) (stops _ (refused _ (c .before .size-ok2 .ensures) (c .if2 .taken)))
+returns-2 c = goes-on (width-ok (c .before .before))
+    (stops _ (refused _ (c .before .size-ok2 .ensures) (c .if2 .taken)))
 
 returns-3 : tie.Need-returns-3
 returns-3 c =

@@ -9,7 +9,8 @@ use borrow.Author.Needs.{needs}
 use Rattle.solid_tiles.proofs.look.look.Statement.{statement}
 use Rattle.solid_tiles.proofs.look.look.Tie as tie
 
--- The places: the start, once the region is known to be seen, the box, once its range is there, and that, once there is a
+-- The places: the start, once the region is known to be seen, the box, once its range is there, and that, once there is
+-- a
 -- verdict.
 abbrev start : tie.Else1 → tie.Start
 start c = c .before .before .before .before .before .before .before
@@ -112,7 +113,8 @@ returns-4 c =
     let j = ranged v in
     let b = with-box j in
     opened true (b .solid-bounds .ensures) (seen (b .before)) (j .run-ranges .ensures)
-    (mixed-of _ (v .verdict-on .ensures) (told .enum-told3 .given .1)) (shortened .shorten .ensures) (shortened .shorten .kept .1 .1 .0)
+    (mixed-of _ (v .verdict-on .ensures) (told .enum-told3 .given .1)) (shortened .shorten .ensures)
+    (shortened .shorten .kept .1 .1 .0)
 
 pub look-spec : {M : Type 1} → statement M
 look-spec =
