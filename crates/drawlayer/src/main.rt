@@ -1,7 +1,6 @@
 // The program: a grid record and a tape on standard input, the file on standard output and the count on descriptor 2,
-// or the
-// refusal on standard output. The count comes last, and only behind a whole picture: who reads it knows that none was
-// cut.
+// or the refusal on standard output. The count comes last, and only behind a whole picture: who reads it knows that
+// none was cut.
 use program::LINE;
 use program::OUTPUT;
 use program::draw_layer;

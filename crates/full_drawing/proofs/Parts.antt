@@ -11,8 +11,7 @@ use Rattle.code.specs.Runs.{Fit}
 use Rattle.full_drawing.specs.Full.{Put}
 
 -- A loop puts `end` parts of s numbers each, from `from` on; i of them are put, and the next stands at `at`. With n
--- slots
--- `rest n i` is what is left.
+-- slots `rest n i` is what is left.
 pub record Along (ws : List ℕ) (rest : ℕ → ℕ → List ℕ) (s end from : ℕ) (p₀ p : List ℕ) (i at : ℕ) : Type 0 where
   pub size : length p ≡ length p₀
   pub within : i ≤ end

@@ -1,7 +1,6 @@
 -- Demand 3 of the calls: a tile drawing that is not turned down leaves the full drawing's picture, whatever the lent
--- buffers
--- held, and counts the walk's sum, each 64-tile's part of which is bounded; and every short tape of its regions has the
--- whole tape's value at every sample of the region.
+-- buffers held, and counts the walk's sum, each 64-tile's part of which is bounded; and every short tape of its regions
+-- has the whole tape's value at every sample of the region.
 use mathlib.Core.Path.{_≡_, sym, ap, _∙_}
 use mathlib.Core.Bool.{Bool, true, false}
 use mathlib.Core.List.{List, map}

@@ -1,6 +1,5 @@
 -- Demand 2 of the calls: what a done packing wrote, unpacking gives back, list and slot count; and the other way round.
--- The
--- second call refuses nothing but an output of the wrong length.
+-- The second call refuses nothing but an output of the wrong length.
 use mathlib.Core.Path.{_≡_, sym, ap, ap₂, _∙_}
 use mathlib.Core.Bool.{true, not}
 use mathlib.Core.List.{List, [], _∷_}

@@ -1,6 +1,5 @@
 // The steps of a call: each check gives the number of its line in the scope paper's table, or 0. A call lists its
-// checks
-// in the paper's order, and the first that holds is returned.
+// checks in the paper's order, and the first that holds is returned.
 use crate::WORK_LIMIT;
 use code::unpack::unpack_words;
 use picture::grid::Grid;

@@ -1,6 +1,5 @@
 -- What a row of samples marks, by place, and the bits of a picture when bytes are stored: one by an `or`, whole bytes,
--- and
--- so a row that is filled.
+-- and so a row that is filled.
 use mathlib.Core.Path.{_≡_, refl, sym, ap, _∙_, subst}
 use mathlib.Core.Bool.{Bool, true, false}
 use mathlib.Core.List.{List, [], _∷_, _++_}

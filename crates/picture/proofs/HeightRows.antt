@@ -35,8 +35,7 @@ clear-ends {h₀} {i} {h} l a =
     a .same ∙ rw (e, drop-length h₀, append-nil)
 
 -- A loop along a row is at i and ends at end, within size heights. What the definition makes of the rest from here,
--- `rest`,
--- is what it makes of the whole from the start.
+-- `rest`, is what it makes of the whole from the start.
 pub record Along {A : Type 0} (size end i : ℕ) (rest whole : A) : Type 0 where
   pub before : i ≤ end
   pub fits : end ≤ size

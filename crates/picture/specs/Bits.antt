@@ -17,8 +17,7 @@ unfoldable pub pixel : ℕ → List ℕ → ℕ → ℕ → ℕ
 pixel w h x y = pick (ltb x w) (getD h (y * w + x) 0) 0
 
 -- The bytes b show the heights h of n rows of w pixels: "the leftmost pixel is the highest bit, 1 is material, spare
--- bits
--- are 0".
+-- bits are 0".
 pub record Shows (w n : ℕ) (b h : List ℕ) : Type 0 where
   pub size : length b ≡ n * stride w
   pub pixels : length h ≡ w * n
@@ -52,8 +51,7 @@ unfoldable pub markAt : ℕ → List Bool → ℕ → ℕ
 markAt p bs q = pick (ltb q p) 0 (when (getD bs (q - p) false) 1)
 
 -- The bytes after a row of samples from bit p on, counted from the highest of the first byte: those with material are
--- 1,
--- and every other is as it was.
+-- 1, and every other is as it was.
 pub record Marked (p : ℕ) (bs : List Bool) (b b′ : List ℕ) : Type 0 where
   pub size : length b′ ≡ length b
   pub bits : (j k : ℕ) → j < length b → k < 8

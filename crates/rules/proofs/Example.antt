@@ -1,6 +1,5 @@
 -- That no hypothesis of the theory is impossible: tapes and grids, flat and solid, that are accepted, with a cut, a
--- filled
--- and a skipped region, and what their walks give, by computation alone.
+-- filled and a skipped region, and what their walks give, by computation alone.
 use mathlib.Core.Path.{_≡_, refl}
 use mathlib.Core.Bool.{Bool, true, false}
 use mathlib.Core.Logic.{inl, inr}
@@ -93,8 +92,7 @@ abbrev pub two : Tape
 two = readTape twoBytes .tape
 
 -- Whether the low and the high end of a region's range are below 0: both where it is filled, neither where it is
--- skipped,
--- the low one where it is cut.
+-- skipped, the low one where it is cut.
 abbrev pub signs : Tape → Grid → Region → List Bool
 signs t g r = let x = rangeOver t (boxOf g r) in isNeg (x .low) ∷ (isNeg (x .high) ∷ [])
 

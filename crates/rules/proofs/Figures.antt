@@ -1,6 +1,5 @@
 -- The figures that the scope paper marks to be proved (★), and some of its worded rules at numbers, as rows of one
--- list:
--- what a definition gives, and what the paper says.
+-- list: what a definition gives, and what the paper says.
 use mathlib.Core.Path.{_≡_, refl}
 use mathlib.Core.List.{List, [], _∷_, _++_, map}
 use lib.IntN.{ℤ, pos, negℤ}

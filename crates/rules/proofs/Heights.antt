@@ -1,6 +1,5 @@
 -- What a visit to a region does to each pixel: its height becomes the larger of the one before and of 1 + the greatest
--- z
--- index with material in the region; pixels outside are untouched. Nothing here depends on the order of regions.
+-- z index with material in the region; pixels outside are untouched. Nothing here depends on the order of regions.
 use mathlib.Core.Path.{_≡_, sym, ap, _∙_}
 use mathlib.Core.Bool.{true}
 use mathlib.Core.List.{List, [], _∷_}

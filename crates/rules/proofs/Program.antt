@@ -1,6 +1,5 @@
 -- The program: the paper's figures of it, computed; what it reads decides as the whole input would; and its file is
--- that
--- of the full drawing.
+-- that of the full drawing.
 use mathlib.Core.Path.{_≡_, refl, sym, ap, _∙_, subst}
 use mathlib.Core.Bool.{Bool, true, false, not}
 use mathlib.Core.List.{List, [], _∷_, _++_, map}

@@ -1,7 +1,6 @@
 -- Drawings as the paper of formal statements has them, word for word, and each equal to the definition used here. Where
--- text
--- and parts are the same nothing is repeated: the records, `solid`, `layers`, `pastX`, `filled`, `hidden`, `alongX`,
--- `fold`.
+-- text and parts are the same nothing is repeated: the records, `solid`, `layers`, `pastX`, `filled`, `hidden`,
+-- `alongX`, `fold`.
 use mathlib.Core.Path.{_≡_, refl, sym, ap, ap₂, _∙_}
 use mathlib.Core.Bool.{Bool, true, false, _&&_, _||_, not}
 use mathlib.Core.List.{List, [], _∷_, _++_, append-assoc}

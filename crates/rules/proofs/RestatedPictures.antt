@@ -1,6 +1,6 @@
 -- Pictures and files as the paper of formal statements has them, word for word, and each equal to the definition used
--- here.
--- Where text and parts are the same nothing is repeated: a row's bytes, `cleanRow`, a file's head, the file of heights.
+-- here. Where text and parts are the same nothing is repeated: a row's bytes, `cleanRow`, a file's head, the file of
+-- heights.
 use mathlib.Core.Path.{_≡_, refl, sym, ap}
 use mathlib.Core.Bool.{Bool, _&&_, and-assoc}
 use mathlib.Core.List.{List, [], _++_}

@@ -1,6 +1,5 @@
 -- Tapes as the paper of formal statements has them, word for word, and each equal to the definition used here. Where
--- text
--- and parts are the same nothing is repeated: `isIn`, `lastOut`, the tests and records of a clause, `rawsFrom`,
+-- text and parts are the same nothing is repeated: `isIn`, `lastOut`, the tests and records of a clause, `rawsFrom`,
 -- `rawsOf`, `listOf`.
 use mathlib.Core.Path.{_≡_, refl, sym, ap, ap₂, subst₃, _∙_}
 use mathlib.Core.Bool.{Bool, true, false, _&&_, _||_, not}

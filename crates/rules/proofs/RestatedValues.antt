@@ -1,6 +1,5 @@
 -- Values and ranges as the paper of formal statements has them, word for word, and each equal to the definition used
--- here.
--- Where text and parts are the same nothing is repeated: `pick`, `isNeg`, `top`, `rootFrom`, the records.
+-- here. Where text and parts are the same nothing is repeated: `pick`, `isNeg`, `top`, `rootFrom`, the records.
 use mathlib.Core.Path.{_≡_, refl, sym, ap, ap₂, _∙_}
 use mathlib.Core.Bool.{Bool, true, false, _&&_, not}
 use lib.IntN.{ℤ, pos, negsuc, negℤ, natAbs, subℕ, _+ℤ_, _-ℤ_, _*ℤ_}

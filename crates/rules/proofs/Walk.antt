@@ -53,8 +53,7 @@ fold-raised f P (q ∷ qs) a s =
     joined (a .0 s) (fold-raised f P qs (a .1) (f q s)) (λ p z i. some-first i) (λ p z i. here i) (λ p z i. there i)
 
 -- Regions that lie in r and cover it, in any order, raise by the samples of r, also if they are run with another tape
--- that
--- has the same material there.
+-- that has the same material there.
 pub parts-raised : (t t′ : Tape) (g : Grid) (r : Region) (n : ℕ) (qs : List Region) → Each (Placed g r n) qs
     → ((x y z : ℕ) → Inside r x y z → InGrid g x y z → Some (λ q. Inside q x y z) qs)
     → ((x y z : ℕ) → Inside r x y z → InGrid g x y z → material t′ (sampleAt g x y z) ≡ material t (sampleAt g x y z))

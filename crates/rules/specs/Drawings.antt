@@ -64,8 +64,7 @@ unfoldable pub gridFault : Bool → Grid → ℕ
 gridFault isSolid g = firstOf (when (not (sizesOk isSolid g)) 10) (when (not (axesOk isSolid g)) 11)
 
 -- The full drawing: "A height is 1 + the greatest z index with material, or 0 if there is none", by pixel in row order.
--- A
--- flat picture has one layer, and so the heights 0 and 1.
+-- A flat picture has one layer, and so the heights 0 and 1.
 abbrev pub layers : Grid → ℕ
 layers g = pick (solid g) (g .depth) 1
 
@@ -145,8 +144,7 @@ filled g r h =
     raiseRows (pastY g r - r .j) (g .width) (r .j * g .width + r .i) (pastX g r - r .i) (pastZ g r) h
 
 -- "a region, side 1 included, is passed over uncounted if, when its turn comes, every pixel of it already has at least
--- the
--- height that filling the region would give"; only in a solid.
+-- the height that filling the region would give"; only in a solid.
 unfoldable pub rowHigh : ℕ → ℕ → ℕ → List ℕ → Bool
 rowHigh zero p z h = true
 rowHigh (suc n) p z h = leb z (getD h p 0) && rowHigh n (suc p) z h
@@ -190,8 +188,7 @@ fold f [] s = s
 fold f (r ∷ rs) s = fold f rs (f r s)
 
 -- The count is "the sum, over all regions that this walk runs, over ranges or on values, of the number of clauses in
--- the
--- tape that the region has".
+-- the tape that the region has".
 abbrev pub counted : Tape → State → State
 counted t s = state (s .heights) (s .clauses + length (t .clauses))
 
@@ -272,10 +269,8 @@ inAll s [] = true
 inAll s (b ∷ bs) = inBox s b && (boxOk b && inAll s bs)
 
 -- "A region of side 64 has the whole tape, any other its parent's short tape." Regions that lie in one another as the
--- walk's
--- do: the first is one of r's children of the first side, each next one is one of the children, of the next side, of
--- the
--- one before. From the whole on, with the side 64 and those after it, the first is a 64-tile.
+-- walk's do: the first is one of r's children of the first side, each next one is one of the children, of the next
+-- side, of the one before. From the whole on, with the side 64 and those after it, the first is a 64-tile.
 unfoldable pub OneOf : Region → List Region → Type 0
 OneOf r [] = ⊥
 OneOf r (q ∷ qs) = (r ≡ q) ⊎ OneOf r qs
@@ -308,10 +303,8 @@ pub record InGrid (g : Grid) (x y z : ℕ) : Type 0 where
   pub z-in : z < layers g
 
 -- Demand 3, of one tape: the tile drawing is the full drawing; a shortened tape has the full tape's value at every
--- sample
--- of its region, said of any boxes that hold the sample and of the walk's own regions; a range holds every value over
--- its
--- box; and the bound of the count in each 64-tile.
+-- sample of its region, said of any boxes that hold the sample and of the walk's own regions; a range holds every value
+-- over its box; and the bound of the count in each 64-tile.
 pub record Tiles (t : Tape) : Type 0 where
   pub same-picture : (g : Grid) (isSolid : Bool) → isSolid ≡ solid g → gridFault isSolid g ≡ 0
       → walked t g .heights ≡ drawn t g

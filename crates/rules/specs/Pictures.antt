@@ -59,8 +59,7 @@ unfoldable pub bitmapFile : ℕ → ℕ → List ℕ → List ℕ
 bitmapFile w h bs = head 52 w h ++ cleanRows h w bs
 
 -- "The height file begins with `50 35 0A`, the same line, then `65535` and a newline, and each height with its high
--- byte
--- first."
+-- byte first."
 unfoldable pub highFirst : List ℕ → List ℕ
 highFirst [] = []
 highFirst (h ∷ hs) = h / 256 ∷ (h % 256 ∷ highFirst hs)

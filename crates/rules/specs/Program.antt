@@ -10,8 +10,7 @@ use Rattle.rules.specs.Drawings.{Grid, solid, gridFault, walked}
 use Rattle.rules.specs.Pictures.{digitsFrom, picture, bitmapFile, heightFile}
 
 -- "It reads a grid record, then the tape: `47 52`, width, height, depth (2 bytes each), three origins, three steps (4
--- bytes
--- signed each). Depth 0 here means flat; the third origin is then z and the third step is unread."
+-- bytes signed each). Depth 0 here means flat; the third origin is then z and the third step is unread."
 abbrev pub recordLength : ℕ
 recordLength = 32
 

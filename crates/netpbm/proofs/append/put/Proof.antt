@@ -1,6 +1,5 @@
 -- `append::put` meets its contract. The invariant of its loop: the first i bytes of s are written. The measure is what
--- is left of s.
--- Assumes nothing.
+-- is left of s. Assumes nothing.
 use mathlib.Core.Path.{_≡_}
 use Prim.Native.Nat.{_+_, _-_, _≤_}
 use native.Mathlib.Omega.{arith}

@@ -1,7 +1,5 @@
 -- `decimal::first_place` meets its contract. The invariant of its loop: the number has a digit in the place. The
--- measure is what
--- the place leaves of the number.
--- Assumes nothing.
+-- measure is what the place leaves of the number. Assumes nothing.
 use Prim.Native.Nat.{_/_, _-_}
 use native.Mathlib.Omega.{arith}
 use Rattle.netpbm.specs.Places.{Place}

@@ -1,7 +1,5 @@
 -- `decimal::number_length` meets its contract. The invariant of its loop: the digits counted and those of the rest are
--- those of
--- the number and one more. The measure is the rest.
--- Assumes nothing.
+-- those of the number and one more. The measure is the rest. Assumes nothing.
 use mathlib.Core.Path.{_≡_, ap}
 use Prim.Native.Nat.{_+_, _≤_}
 use native.Mathlib.Omega.{arith}

@@ -1,7 +1,5 @@
 -- `decimal::put_number` meets its contract. The invariant of its loop: to what stood before it, the digits from the
--- first place to
--- this one are written. The measure is the place.
--- Assumes nothing.
+-- first place to this one are written. The measure is the place. Assumes nothing.
 use mathlib.Core.Path.{sym}
 use mathlib.Core.List.{List}
 use Prim.Native.Nat.{ℕ, _/_}

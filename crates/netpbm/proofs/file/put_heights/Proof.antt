@@ -1,6 +1,5 @@
 -- `netpbm::put_heights` meets its contract. The invariant of its loop: the first i heights are written. The measure is
--- the number left.
--- Assumes nothing.
+-- the number left. Assumes nothing.
 use mathlib.Core.Path.{_≡_, ap}
 use Prim.Native.Nat.{_+_, _-_, _*_, _≤_}
 use native.Mathlib.Omega.{arith}

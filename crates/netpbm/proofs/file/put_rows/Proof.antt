@@ -1,6 +1,5 @@
 -- `netpbm::put_rows` meets its contract. The invariant of its loop: the first y rows are written. The measure is the
--- number of rows left.
--- Assumes nothing.
+-- number of rows left. Assumes nothing.
 use mathlib.Core.Path.{_≡_, ap}
 use Prim.Native.Nat.{_+_, _-_, _*_, _≤_}
 use native.Mathlib.Nat.{le-antisymm}

@@ -1,6 +1,5 @@
 -- `bits::fill_rect` meets its contract. The loop's invariant: whatever heights the bytes showed, they now show those
--- with
--- the rows passed raised.
+-- with the rows passed raised.
 use mathlib.Core.Path.{_≡_, refl, _∙_}
 use mathlib.Core.List.{List}
 use Prim.Native.Nat.{ℕ, _+_, _-_, _*_, _/_, _≤_}

@@ -1,6 +1,5 @@
 -- `bits::fill_row` meets its contract. The loop's invariant: the pixels of the bytes passed are material, and nothing
--- else
--- has changed.
+-- else has changed.
 use mathlib.Core.Path.{_≡_, _∙_, refl}
 use mathlib.Core.Bool.{true}
 use Prim.Native.Nat.{_+_, _-_, _*_, _/_, _≤_}

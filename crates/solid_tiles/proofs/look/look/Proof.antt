@@ -10,8 +10,7 @@ use Rattle.solid_tiles.proofs.look.look.Statement.{statement}
 use Rattle.solid_tiles.proofs.look.look.Tie as tie
 
 -- The places: the start, once the region is known to be seen, the box, once its range is there, and that, once there is
--- a
--- verdict.
+-- a verdict.
 abbrev start : tie.Else1 → tie.Start
 start c = c .before .before .before .before .before .before .before
 
