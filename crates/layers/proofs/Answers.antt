@@ -1,21 +1,21 @@
 -- Answers of calls: of one that draws nothing, of a drawing that is refused and of one that is done. And what the
 -- type of a lent slice says of it.
 use mathlib.Core.Path.{_≡_, refl, sym, ap, _∙_}
-use mathlib.Core.Bool.{Bool, true, false, _&&_, not}
+use mathlib.Core.Bool.{Bool, true, false, _&&_}
 use mathlib.Core.List.{List, [], _∷_}
 use Prim.Native.Nat.{ℕ, zero, suc, _<_}
 use native.Mathlib.Omega.{arith}
 use lib.Dec.{eqb, leb}
-use lib.ListN.{length, getD}
+use lib.ListN.{getD}
 use borrow.Author.Tests.{ne-eqb, eq-eqb, lt-ltb}
-use Rattle.rules.specs.Values.{pick, firstOf, firstFault, when}
+use Rattle.rules.specs.Values.{pick, firstFault}
 use Rattle.rules.specs.Tapes.{Got, placeOf, readTape, allBytes}
-use Rattle.rules.proofs.Lines.{first-none, this-line}
-use Rattle.packing.specs.declared.Packed.{Packed}
-use Rattle.packing.specs.Packing as Copying
+use Rattle.rules.proofs.Lines.{this-line}
 use Rattle.rules.proofs.Places.{tape-placed}
+use Rattle.packing.specs.declared.Packed.{Packed}
+use Rattle.packing.specs.Packing.{copyFault, Copies}
 use Rattle.layers.specs.declared.Answer.{Answer}
-use Rattle.layers.specs.Says.{Answered, written, copyFault}
+use Rattle.layers.specs.Says.{Answered}
 
 abbrev pub answer : ℕ → ℕ → ℕ → Answer
 answer n p c = record { number = n; place = p; count = c }
@@ -31,19 +31,10 @@ uncounted {n} e h k = rw e (record { number = h; place = k; count = no-figure (e
 pub unplaced : {n f : ℕ} {r : Answer} → r ≡ answer f 0 0 → f ≡ n → Answered n 0 0 r
 unplaced {n} e h = uncounted e h (no-figure (leb 5 n && leb n 9))
 
--- Packing and unpacking: their two lines as a list.
-module _ {A : Type 0} {g : Got} {b o o′ : List A} {p : Packed} (f : Copying.Copies g b o o′ p) where
-  lines-same : Copying.copyFault g b o ≡ copyFault g b o
-  lines-same = ap (firstOf (g .number)) (sym (first-none (when (not (eqb (length o) (length b))) 14)))
-
-  pub copy-answer : {r : Answer} → r ≡ answer (p .number) (p .place) 0 → Answered (copyFault g b o) (g .place) 0 r
-  copy-answer e = uncounted e (f .number ∙ lines-same) (f .place ∙ ap (λ n. placeOf n (g .place)) lines-same)
-
-  pub copy-slots : p .slots ≡ pick (eqb (copyFault g b o) 0) (g .tape .slots) 0
-  copy-slots = f .slots ∙ ap (λ n. pick (eqb n 0) (g .tape .slots) 0) lines-same
-
-  pub copy-out : o′ ≡ written (copyFault g b o) b o
-  copy-out = f .out ∙ ap (λ n. written n b o) lines-same
+-- Packing and unpacking.
+pub copy-answer : {A : Type 0} {g : Got} {b o o′ : List A} {p : Packed} {r : Answer} → Copies g b o o′ p
+    → r ≡ answer (p .number) (p .place) 0 → Answered (copyFault g b o) (g .place) 0 r
+copy-answer f e = uncounted e (f .number) (f .place)
 
 -- A tape that is accepted has no place, and one that is not has its own with its own number.
 module _ (s lines : List ℕ) (h : getD lines 0 0 ≡ readTape s .number) where

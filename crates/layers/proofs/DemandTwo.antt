@@ -13,9 +13,10 @@ use Rattle.rules.specs.Tapes.{Got, readTape, readList, tapeBytes, listOf, allIn
 use Rattle.rules.proofs.Lines.{first-none, each-line}
 use Rattle.rules.proofs.Bytes.{both-ways}
 use Rattle.rules.proofs.Reading.{list-tape}
+use Rattle.packing.specs.Packing.{copyFault}
 use Rattle.layers.specs.declared.Answer.{Answer}
 use Rattle.layers.specs.declared.Listed.{Listed}
-use Rattle.layers.specs.Says.{copyFault, PackSays, UnpackSays}
+use Rattle.layers.specs.Says.{PackSays, UnpackSays}
 
 -- "output not of the exact length": of b.
 abbrev pub lengthFault : {A : Type 0} → List A → List A → ℕ

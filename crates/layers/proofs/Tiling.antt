@@ -12,21 +12,14 @@ use Rattle.rules.specs.Drawings as D
 use Rattle.rules.specs.Pictures.{picture}
 use Rattle.rules.proofs.Tests.{last-off}
 use Rattle.rules.proofs.Lines.{each-line}
-use Rattle.rules.specs.Accepted.{Accepted}
 use Rattle.tape_check.specs.declared.Checked.{Checked}
-use Rattle.code.specs.Words.{tapeIn}
 use Rattle.picture.specs.Shapes.{gridIn}
 use Rattle.picture.specs.declared.grid.Grid.{Grid}
-use Rattle.walk.specs.Walks.{Sound}
+use Rattle.walk.specs.Walks.{Sound, Walked}
 use Rattle.layers.specs.declared.Answer.{Answer}
 use Rattle.layers.specs.Says.{Opens, lengthFault, workFault, tileLines, tileFault, TilesSay}
 use Rattle.layers.proofs.Answers.{answer, refused-by, done-by}
 use Rattle.layers.proofs.Drawing.{Clear, clear, words-accepted, words-tape}
-
--- What a walk leaves, flat or solid.
-pub record Walks (isSolid : Bool) (ws : List ℕ) (g : D.Grid) (o : List ℕ) (c : ℕ) : Type 0 where
-  pub pixels : (n : ℕ) → Accepted (tapeIn n ws) → o ≡ picture isSolid g (D.walked (tapeIn n ws) g .heights)
-  pub count : (n : ℕ) → Accepted (tapeIn n ws) → c ≡ D.walked (tapeIn n ws) g .clauses
 
 -- The words are those of an accepted tape.
 pub sound : {s ws ws′ : List ℕ} {q : Checked} → Opens s ws ws′ q → readTape s .number ≡ 0
@@ -65,7 +58,7 @@ module _ (t : Bool) (s : List ℕ) (d : Grid) (o w : List ℕ) where
   -- Done: the walk's picture and count, and the work buffer cleared.
   pub tiles-done : {o′ w′ ws ws′ : List ℕ} {q : Checked} {k : ℕ} {r : Answer} → r ≡ answer 0 0 k
       → tileFault t s (gridIn d t) (length o) (length w) ≡ 0 → Opens s ws ws′ q
-      → Walks t (take (q .clauses) ws′) (gridIn d t) o′ k → w′ ≡ replicate (length w) 0 → TilesSay t s d o o′ w w′ r
+      → Walked t (take (q .clauses) ws′) d o′ k → w′ ≡ replicate (length w) 0 → TilesSay t s d o o′ w w′ r
   tiles-done e z f v u =
       let g = gridIn d t in
       let lines = tileLines t s g (length o) (length w) in

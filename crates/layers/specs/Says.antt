@@ -15,6 +15,7 @@ use Rattle.tape_check.specs.declared.Checked.{Checked}
 use Rattle.code.specs.Unpacking.{Unpacked}
 use Rattle.picture.specs.Shapes.{gridIn}
 use Rattle.picture.specs.declared.grid.Grid.{Grid}
+use Rattle.packing.specs.Packing.{copyFault}
 use Rattle.netpbm.specs.Files.{fileFault}
 use Rattle.layers.specs.declared.Answer.{Answer}
 use Rattle.layers.specs.declared.Listed.{Listed}
@@ -29,10 +30,6 @@ pub record Answered (n p c : ℕ) (r : Answer) : Type 0 where
 -- "every lent byte unchanged. A 0 overwrites the whole picture or output".
 abbrev pub written : {A : Type 0} → ℕ → List A → List A → List A
 written f b o = pick (eqb f 0) b o
-
--- "Packing checks 4, 3, 5 to 9, 14; unpacking 1 to 9, 14": what reading refuses, then the output's length.
-abbrev pub copyFault : {A : Type 0} → Got → List A → List A → ℕ
-copyFault g b o = firstFault (g .number ∷ (when (not (eqb (length o) (length b))) 14 ∷ []))
 
 pub record PackSays (n : ℕ) (zs : List ℤ) (o o′ : List ℕ) (r : Answer) : Type 0 where
   pub answer : let g = readList n zs in Answered (copyFault g (tapeBytes (g .tape)) o) (g .place) 0 r

@@ -1,15 +1,15 @@
 -- What packing and unpacking answer: what reading refuses with its place, the wrong length, and what is written.
-use mathlib.Core.Path.{_≡_, refl, sym, ap, _∙_}
+use mathlib.Core.Path.{_≡_, sym, ap, _∙_}
 use mathlib.Core.Bool.{false}
 use mathlib.Core.List.{List}
-use Prim.Native.Nat.{ℕ, zero, suc, _≤_}
+use Prim.Native.Nat.{ℕ, _≤_}
 use lib.Dec.{eqb}
 use lib.IntN.{ℤ}
 use lib.ListN.{length, getD}
 use borrow.Author.Tests.{eq-eqb, ne-eqb}
-use Rattle.rules.specs.Values.{firstOf}
 use Rattle.rules.specs.Tapes.{Got, placeOf, slotLimit, rawsOf, readList, word, readTape}
 use Rattle.rules.proofs.Reading.{counts-hold, list-accepted, list-tape, tape-accepted, tape-tape}
+use Rattle.rules.proofs.Lines.{first-here}
 use Rattle.rules.proofs.Places.{Placed}
 use Rattle.packing.specs.Packing.{copyFault, Copies}
 
@@ -21,15 +21,11 @@ pub tape-slots : (s : List ℕ) → readTape s .number ≡ 0 → readTape s .tap
 tape-slots s e = rw (tape-tape s e) (counts-hold (getD s 3 0) (word 4 s) (tape-accepted s e .counts) .slots)
 
 -- The answer in its three cases.
-first-stays : (x y : ℕ) → (x ≡ 0 → ⊥) → firstOf x y ≡ x
-first-stays zero y h = absurd (h refl)
-first-stays (suc x) y h = refl
-
 module _ {A : Type 0} (g : Got) (b o : List A) where
   pub read-refuses : Placed g → (x p : ℕ) → (x ≡ 0 → ⊥) → x ≡ g .number → p ≡ g .place
       → Copies g b o o (record { number = x; place = p; slots = 0 })
   read-refuses l x p h e q =
-      let f : copyFault g b o ≡ x = first-stays (g .number) _ (λ z. h (e ∙ z)) ∙ sym e in
+      let f : copyFault g b o ≡ x = first-here (g .number) _ (λ z. h (e ∙ z)) ∙ sym e in
       let n : eqb x 0 ≡ false = ne-eqb x 0 h in
       record {
         number = sym f;

@@ -1,12 +1,12 @@
 -- What packing and unpacking write and answer.
 use mathlib.Core.Path.{_≡_}
 use mathlib.Core.Bool.{not}
-use mathlib.Core.List.{List}
+use mathlib.Core.List.{List, [], _∷_}
 use Prim.Native.Nat.{ℕ}
 use lib.Dec.{eqb}
 use lib.IntN.{ℤ}
 use lib.ListN.{length}
-use Rattle.rules.specs.Values.{pick, firstOf, when}
+use Rattle.rules.specs.Values.{pick, firstFault, when}
 use Rattle.rules.specs.Tapes.{Got, placeOf, readList, readTape, tapeBytes, listOf}
 use Rattle.packing.specs.declared.Packed.{Packed}
 
@@ -25,7 +25,7 @@ pub record Fills {A : Type 0} (g : Got) (k : ℕ) (b o : List A) : Type 0 where
 
 -- "Packing checks 4, 3, 5 to 9, 14; unpacking 1 to 9, 14": what reading refuses, then the output's length.
 abbrev pub copyFault : {A : Type 0} → Got → List A → List A → ℕ
-copyFault g b o = firstOf (g .number) (when (not (eqb (length o) (length b))) 14)
+copyFault g b o = firstFault (g .number ∷ (when (not (eqb (length o) (length b))) 14 ∷ []))
 
 -- The answer, where g was read, is written as b and the output o has become o′: all of b, or as it was.
 pub record Copies {A : Type 0} (g : Got) (b o o′ : List A) (r : Packed) : Type 0 where

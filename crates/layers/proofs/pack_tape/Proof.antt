@@ -1,5 +1,5 @@
 -- Packing, with the count of a call that draws nothing.
-use Rattle.layers.proofs.Answers.{copy-answer, copy-out}
+use Rattle.layers.proofs.Answers.{copy-answer}
 use borrow.Author.Needs.{needs}
 use Rattle.layers.proofs.pack_tape.Statement.{statement}
 use Rattle.layers.proofs.pack_tape.Tie as tie
@@ -19,7 +19,7 @@ same-length c = search needs
 returns : tie.Need-returns
 returns c =
     let p = at-packed c .pack .ensures in
-    record { answer = copy-answer p (c .refused .ensures); out = copy-out p }
+    record { answer = copy-answer p (c .refused .ensures); out = p .out }
 
 pub pack-tape-spec : {M : Type 1} → statement M
 pack-tape-spec = tie.close (tie.spec pack-requires refused-requires same-length returns)

@@ -1,5 +1,5 @@
 -- Unpacking, with the count of a call that draws nothing.
-use Rattle.layers.proofs.Answers.{bytes-lent, copy-answer, copy-slots, copy-out}
+use Rattle.layers.proofs.Answers.{bytes-lent, copy-answer}
 use borrow.Author.Needs.{needs}
 use Rattle.layers.proofs.unpack_tape.Statement.{statement}
 use Rattle.layers.proofs.unpack_tape.Tie as tie
@@ -23,8 +23,8 @@ returns c =
     record {
       lent = bytes-lent _ (λ j. k .before .before .shared-slice-known .given j .fits);
       answer = copy-answer p (c .refused .ensures);
-      slots = copy-slots p;
-      out = copy-out p;
+      slots = p .slots;
+      out = p .out;
     }
 
 pub unpack-tape-spec : {M : Type 1} → statement M

@@ -132,10 +132,8 @@ returns-2 c =
     let k = at-cleared c in
     let d = at-drawn k .tile-flat in
     let e = at-clear (at-drawn k .before) in
-    let v = d .ensures in
     tiles-done false _ _ _ _ (c .done .ensures) (none e) (at-opened (e .before) .open-tape .ensures)
-    (record { pixels = v .pixels; count = v .count })
-    (k .clear .ensures ∙ ap (λ m. replicate m 0) (d .kept .1 .1 .1 .0))
+    (d .ensures) (k .clear .ensures ∙ ap (λ m. replicate m 0) (d .kept .1 .1 .1 .0))
 
 pub tile-flat-spec : {M : Type 1} → statement M
 tile-flat-spec =
