@@ -100,25 +100,26 @@ worded =
     (clause 1 0 0 0 (pos 0) ∷ (clause 0 1 0 0 (pos 0) ∷ (clause 9 1 1 0 (pos 0) ∷ [])))
     ∷ [])))))))))))))
 
--- x by itself: in one slot, and in two that hold the same.
-abbrev pub inOneSlot : Tape
-inOneSlot = record { slots = 1; clauses = clause 1 0 0 0 (pos 0) ∷ (clause 11 0 0 0 (pos 0) ∷ []) }
+-- x and x by an opcode: in one slot, and in two that hold the same.
+abbrev pub inOneSlot : ℕ → Tape
+inOneSlot o = record { slots = 1; clauses = clause 1 0 0 0 (pos 0) ∷ (clause o 0 0 0 (pos 0) ∷ []) }
 
-abbrev pub inTwoSlots : Tape
-inTwoSlots =
+abbrev pub inTwoSlots : ℕ → Tape
+inTwoSlots o =
     record {
       slots = 2;
-      clauses = clause 1 0 0 0 (pos 0) ∷ (clause 1 1 0 0 (pos 0) ∷ (clause 11 0 0 1 (pos 0) ∷ []));
+      clauses = clause 1 0 0 0 (pos 0) ∷ (clause 1 1 0 0 (pos 0) ∷ (clause o 0 0 1 (pos 0) ∷ []));
     }
 
--- Request T-01: a product of one slot with itself has the range of the square. The range of a product would be sound
--- there too, so that these rows alone tell the two apart.
+-- Request T-01: a multiply of one slot with itself has the range of square, two slots and other opcodes do not. The
+-- range of a product would be sound there too, so that these rows alone tell the two apart.
 abbrev pub oneSlot : List Row
 oneSlot =
-    interval (rangeOver inOneSlot (onX (minus 1) (pos 1))) (pos 0) (pos 0)
-    ∷ (interval (rangeOver inOneSlot (onX (minus 196608) (pos 327680))) (pos 0) (pos 1638400)
-    ∷ (interval (rangeOver inTwoSlots (onX (minus 196608) (pos 327680))) (minus 983040) (pos 1638400)
-    ∷ []))
+    interval (rangeOver (inOneSlot 11) (onX (minus 1) (pos 1))) (pos 0) (pos 0)
+    ∷ (interval (rangeOver (inOneSlot 11) (onX (minus 196608) (pos 327680))) (pos 0) (pos 1638400)
+    ∷ (interval (rangeOver (inTwoSlots 11) (onX (minus 196608) (pos 327680))) (minus 983040) (pos 1638400)
+    ∷ (interval (rangeOver (inOneSlot 9) (onX (minus 196608) (pos 327680))) (minus 393216) (pos 655360)
+    ∷ [])))
 
 abbrev pub rows : List Row
 rows = starred ++ worded ++ oneSlot
