@@ -180,7 +180,7 @@ mod tests {
     #[test]
     fn the_header_has_the_table_of_the_calls() {
         let header = include_str!("../../../include/layers.h");
-        let lines = header.lines().filter_map(|line| line.strip_prefix(" *   "));
+        let lines = header.lines().filter_map(|line| line.strip_prefix(" *   ")).filter(|line| !line.starts_with("- "));
         let in_c = |line: &str| line.replace('−', "-").replace('·', "*");
         let calls = LINES.iter().filter(|(_, line)| !line.starts_with("program: "));
         let expected = calls.map(|(number, line)| format!("{number:>2} {}", in_c(line)));
