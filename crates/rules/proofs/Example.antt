@@ -10,7 +10,8 @@ use native.Mathlib.Omega.{arith}
 use lib.ListN.{length, take, replicate}
 use Rattle.rules.specs.Values.{isNeg, smaller, larger, sum, difference, product, square, rootFrom, rootOf}
 use Rattle.rules.specs.Values.{unaryValue, binaryValue, valueOf, sumR, differenceR, productR, negR, holdsZero}
-use Rattle.rules.specs.Values.{absoluteR, squareR, rootR, smallerR, largerR, unaryRange, binaryRange, rangeOf}
+use Rattle.rules.specs.Values.{absoluteR, squareR, rootR, smallerR, largerR, unaryRange, multipliedR, binaryRange}
+use Rattle.rules.specs.Values.{rangeOf}
 use Rattle.rules.specs.Values.{sideBelow, sideAbove, choiceOf}
 use Rattle.rules.specs.Tapes.{Tape, runFrom, valueAt, material, rangeFrom, rangeOver, choicesFrom, reads, isIn}
 use Rattle.rules.specs.Tapes.{without, onClause, shortFrom, lastOut, shortened, badSlot, badUnused, badConstant}
@@ -180,10 +181,10 @@ unfolding Nested OneOf shortAfter allBytes allIn32 listOf rawsOf readList readTa
     signed4 readClauses faultFrom clauseFault badSlot badUnused badConstant badRead gridFault drawn rowsFrom rowFrom
     columnFrom partOf walked sides visit onSample fold children alongZ alongY alongX hidden rowsHigh rowHigh filled
     raiseRows raiseRow boxOf lesser sampleAt shortened lastOut shortFrom onClause isIn without reads choicesFrom
-    rangeOver rangeFrom material valueAt runFrom choiceOf sideAbove sideBelow rangeOf binaryRange unaryRange largerR
-    smallerR rootR squareR absoluteR holdsZero negR productR differenceR sumR valueOf binaryValue unaryValue rootOf
-    rootFrom square product difference sum larger smaller bitmapFile cleanRows cleanRow head digitsFrom picture bitsOf
-    rowBytes byteOf
+    rangeOver rangeFrom material valueAt runFrom choiceOf sideAbove sideBelow rangeOf binaryRange multipliedR unaryRange
+    largerR smallerR rootR squareR absoluteR holdsZero negR productR differenceR sumR valueOf binaryValue unaryValue
+    rootOf rootFrom square product difference sum larger smaller bitmapFile cleanRows cleanRow head digitsFrom picture
+    bitsOf rowBytes byteOf
 computed =
     record {
       ten-flat = checked refl refl refl refl refl;

@@ -1,5 +1,5 @@
--- The figures that the scope paper marks to be proved (★), and some of its worded rules at numbers, as rows of one
--- list: what a definition gives, and what the paper says.
+-- The figures that the scope paper marks to be proved (★), some of its worded rules at numbers, and the figures of the
+-- requests, as rows of one list: what a definition gives, and what the paper says.
 use mathlib.Core.Path.{_≡_, refl}
 use mathlib.Core.List.{List, [], _∷_, _++_, map}
 use lib.IntN.{ℤ, pos, negℤ}
@@ -7,9 +7,9 @@ use Prim.Native.Nat.{ℕ}
 use Rattle.rules.specs.Values.{smaller, larger, sum, difference, product, square, rootFrom, rootOf, Clause, Range}
 use Rattle.rules.specs.Values.{range, Box, holdsZero, absoluteR, squareR, rootR, productR, sumR, differenceR}
 use Rattle.rules.specs.Values.{negR, smallerR, largerR, unaryRange, binaryRange, rangeOf, sideBelow, sideAbove}
-use Rattle.rules.specs.Values.{choiceOf}
+use Rattle.rules.specs.Values.{multipliedR, choiceOf}
 use Rattle.rules.specs.Tapes.{Tape, noRange, choicesFrom, reads, isIn, without, onClause, shortFrom, lastOut}
-use Rattle.rules.specs.Tapes.{shortened, listOf}
+use Rattle.rules.specs.Tapes.{rangeFrom, rangeOver, shortened, listOf}
 
 -- A row of numbers: a range is its two ends, a tape is its list.
 pub record Row : Type 0 where
@@ -100,11 +100,32 @@ worded =
     (clause 1 0 0 0 (pos 0) ∷ (clause 0 1 0 0 (pos 0) ∷ (clause 9 1 1 0 (pos 0) ∷ [])))
     ∷ [])))))))))))))
 
+-- x and x by an opcode: in one slot, and in two that hold the same.
+abbrev pub inOneSlot : ℕ → Tape
+inOneSlot o = record { slots = 1; clauses = clause 1 0 0 0 (pos 0) ∷ (clause o 0 0 0 (pos 0) ∷ []) }
+
+abbrev pub inTwoSlots : ℕ → Tape
+inTwoSlots o =
+    record {
+      slots = 2;
+      clauses = clause 1 0 0 0 (pos 0) ∷ (clause 1 1 0 0 (pos 0) ∷ (clause o 0 0 1 (pos 0) ∷ []));
+    }
+
+-- Request T-01: a multiply of one slot with itself has the range of square, two slots and other opcodes do not. The
+-- range of a product would be sound there too, so that these rows alone tell the two apart.
+abbrev pub oneSlot : List Row
+oneSlot =
+    interval (rangeOver (inOneSlot 11) (onX (minus 1) (pos 1))) (pos 0) (pos 0)
+    ∷ (interval (rangeOver (inOneSlot 11) (onX (minus 196608) (pos 327680))) (pos 0) (pos 1638400)
+    ∷ (interval (rangeOver (inTwoSlots 11) (onX (minus 196608) (pos 327680))) (minus 983040) (pos 1638400)
+    ∷ (interval (rangeOver (inOneSlot 9) (onX (minus 196608) (pos 327680))) (minus 393216) (pos 655360)
+    ∷ [])))
+
 abbrev pub rows : List Row
-rows = starred ++ worded
+rows = starred ++ worded ++ oneSlot
 
 pub figures : map (λ r. r .given) rows ≡ map (λ r. r .said) rows
 unfolding smaller larger sum difference product square rootFrom rootOf holdsZero absoluteR squareR rootR productR sumR
-    differenceR negR smallerR largerR unaryRange binaryRange rangeOf sideBelow sideAbove choiceOf choicesFrom reads isIn
-    without onClause shortFrom lastOut shortened listOf
+    differenceR negR smallerR largerR unaryRange multipliedR binaryRange rangeOf rangeFrom rangeOver sideBelow sideAbove
+    choiceOf choicesFrom reads isIn without onClause shortFrom lastOut shortened listOf
 figures = refl

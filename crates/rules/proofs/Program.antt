@@ -12,7 +12,8 @@ use lib.Seq.{length-take-le, take-all}
 use borrow.Author.Tests.{leb-true, leb-false, eqb-true, le-ltb, le-leb, ne-eqb}
 use Rattle.rules.specs.Values.{pick, smaller, larger, sum, difference, product, square, unaryValue, binaryValue}
 use Rattle.rules.specs.Values.{valueOf, sumR, differenceR, productR, negR, holdsZero, absoluteR, squareR, rootR}
-use Rattle.rules.specs.Values.{smallerR, largerR, unaryRange, binaryRange, rangeOf, sideBelow, sideAbove}
+use Rattle.rules.specs.Values.{smallerR, largerR, unaryRange, multipliedR, binaryRange, rangeOf, sideBelow}
+use Rattle.rules.specs.Values.{sideAbove}
 use Rattle.rules.specs.Values.{choiceOf}
 use Rattle.rules.specs.Tapes.{clauseLimit, Got, bad, word, two, four, runFrom, valueAt, material, rangeFrom}
 use Rattle.rules.specs.Tapes.{rangeOver, choicesFrom, reads, isIn, without, onClause, shortFrom, lastOut}
@@ -114,9 +115,9 @@ unfolding programOf programFault programPlace gridRecord recordOk tooLarge fileO
     countsOk rawsFrom rawIn signed4 readClauses faultFrom clauseFault badSlot badUnused badConstant badRead gridFault
     walked sides visit onSample fold children alongZ alongY alongX hidden rowsHigh rowHigh filled raiseRows raiseRow
     boxOf lesser sampleAt shortened lastOut shortFrom onClause isIn without reads choicesFrom rangeOver rangeFrom
-    material valueAt runFrom choiceOf sideAbove sideBelow rangeOf binaryRange unaryRange largerR smallerR rootR squareR
-    absoluteR holdsZero negR productR differenceR sumR valueOf binaryValue unaryValue square product difference sum
-    larger smaller bitmapFile cleanRows cleanRow head digitsFrom picture bitsOf rowBytes byteOf
+    material valueAt runFrom choiceOf sideAbove sideBelow rangeOf binaryRange multipliedR unaryRange largerR smallerR
+    rootR squareR absoluteR holdsZero negR productR differenceR sumR valueOf binaryValue unaryValue square product
+    difference sum larger smaller bitmapFile cleanRows cleanRow head digitsFrom picture bitsOf rowBytes byteOf
 figures = refl
 
 -- A tape that is too long is refused by its head, given whether its counts are in range.

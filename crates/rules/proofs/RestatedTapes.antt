@@ -1,6 +1,6 @@
 -- Tapes as the paper of formal statements has them, word for word, and each equal to the definition used here. Where
 -- text and parts are the same nothing is repeated: `isIn`, `lastOut`, the tests and records of a clause, `rawsFrom`,
--- `rawsOf`, `listOf`.
+-- `rawsOf`, `listOf`. Runs over ranges and what rests on them are no longer the paper's own, and not here.
 use mathlib.Core.Path.{_≡_, refl, sym, ap, ap₂, subst₃, _∙_}
 use mathlib.Core.Bool.{Bool, true, false, _&&_, _||_, not}
 use mathlib.Core.List.{List, [], _∷_, _++_, map, append-nil, append-assoc}
@@ -12,11 +12,11 @@ use lib.ListN.{length, getD, set, drop, replicate}
 use borrow.Author.Tests.{leb-true, leb-false, le-leb, lt-leb}
 use Rattle.rules.specs.Values
 use Rattle.rules.specs.Tapes
-use Rattle.rules.specs.Values.{pick, firstOf, when, isNeg, Clause, Sample, Range, Box}
-use Rattle.rules.specs.Tapes.{Tape, noRange, isIn, Kept, kept, copyOf, lastOut, Raw, isSlot, isZero, isOpcode}
+use Rattle.rules.specs.Values.{pick, firstOf, when, isNeg, Clause, Sample, Range}
+use Rattle.rules.specs.Tapes.{Tape, noRange, isIn, Kept, kept, copyOf, Raw, isSlot, isZero, isOpcode}
 use Rattle.rules.specs.Tapes.{nat, leastWord, usesLeft, usesRight, clauseOf, Got, bad, good, word, rawsFrom}
 use Rattle.rules.specs.Tapes.{headOk, rawsOf, two, clauseBytes, listOf, allBytes, allIn32}
-use Rattle.rules.proofs.RestatedValues.{valueOf, value-same, rangeOf, range-of-same, choiceOf, choice-same}
+use Rattle.rules.proofs.RestatedValues.{valueOf, value-same}
 use Rattle.rules.proofs.Reading.{fault-here, fault-after}
 use Rattle.rules.proofs.Bytes.{both-ways}
 
@@ -91,7 +91,7 @@ pub material-same : (t : Tape) (s : Sample) → material t s ≡ Tapes.material 
 unfolding Tapes.material
 material-same t s = ap isNeg (value-at-same t s)
 
--- A run over ranges: the result, and each clause's choice.
+-- Slots of ranges.
 abbrev pub nthR : List Range → ℕ → Range
 nthR [] i = noRange
 nthR (r ∷ rs) zero = r
@@ -119,58 +119,6 @@ noRanges (suc n) = noRange ∷ noRanges n
 pub no-ranges-same : (n : ℕ) → noRanges n ≡ replicate n noRange
 no-ranges-same zero = refl
 no-ranges-same (suc n) = ap (λ (l : List Range). noRange ∷ l) (no-ranges-same n)
-
-step-same : (c : Clause) (b : Box) (rs : List Range)
-    → rangeOf (c .opcode) (c .constant) b (nthR rs (c .left)) (nthR rs (c .right))
-    ≡ Values.rangeOf c b (getD rs (c .left) noRange) (getD rs (c .right) noRange)
-step-same c b rs =
-    range-of-same c b (nthR rs (c .left)) (nthR rs (c .right))
-    ∙ ap₂ (Values.rangeOf c b) (nth-range-same rs (c .left)) (nth-range-same rs (c .right))
-
-abbrev pub rangeFrom : List Clause → Box → List Range → Range → Range
-rangeFrom [] b rs last = last
-rangeFrom (c ∷ cs) b rs last =
-    let r = rangeOf (c .opcode) (c .constant) b (nthR rs (c .left)) (nthR rs (c .right)) in
-    rangeFrom cs b (putR rs (c .out) r) r
-
-pub range-run-same : (cs : List Clause) (b : Box) (rs : List Range) (last : Range)
-    → rangeFrom cs b rs last ≡ Tapes.rangeFrom cs b rs last
-unfolding Tapes.rangeFrom
-range-run-same [] b rs last = refl
-range-run-same (c ∷ cs) b rs last =
-    let r = rangeOf (c .opcode) (c .constant) b (nthR rs (c .left)) (nthR rs (c .right)) in
-    let e = step-same c b rs in
-    range-run-same cs b (putR rs (c .out) r) r
-    ∙ ap₂ (Tapes.rangeFrom cs b) (put-range-same rs (c .out) r ∙ ap (set rs (c .out)) e) e
-
-abbrev pub rangeOver : Tape → Box → Range
-rangeOver t b = rangeFrom (t .clauses) b (noRanges (t .slots)) noRange
-
-pub range-over-same : (t : Tape) (b : Box) → rangeOver t b ≡ Tapes.rangeOver t b
-unfolding Tapes.rangeOver
-range-over-same t b =
-    rw (no-ranges-same (t .slots)) (range-run-same (t .clauses) b (replicate (t .slots) noRange) noRange)
-
-abbrev pub choicesFrom : List Clause → Box → List Range → List ℕ
-choicesFrom [] b rs = []
-choicesFrom (c ∷ cs) b rs =
-    let x = nthR rs (c .left) in
-    let y = nthR rs (c .right) in
-    choiceOf (c .opcode) x y ∷ choicesFrom cs b (putR rs (c .out) (rangeOf (c .opcode) (c .constant) b x y))
-
-pub choices-same : (cs : List Clause) (b : Box) (rs : List Range) → choicesFrom cs b rs ≡ Tapes.choicesFrom cs b rs
-unfolding Tapes.choicesFrom
-choices-same [] b rs = refl
-choices-same (c ∷ cs) b rs =
-    let x = nthR rs (c .left) in
-    let y = nthR rs (c .right) in
-    let r = rangeOf (c .opcode) (c .constant) b x y in
-    let p = nth-range-same rs (c .left) in
-    let q = nth-range-same rs (c .right) in
-    ap₂ {B = List ℕ} {C = List ℕ} (λ h hs. h ∷ hs)
-    (choice-same (c .opcode) x y ∙ ap₂ (Values.choiceOf (c .opcode)) p q)
-    (choices-same cs b (putR rs (c .out) r)
-    ∙ ap (Tapes.choicesFrom cs b) (put-range-same rs (c .out) r ∙ ap (set rs (c .out)) (step-same c b rs)))
 
 -- The slots that an opcode reads.
 abbrev pub reads : ℕ → ℕ → ℕ → List ℕ
@@ -224,24 +172,6 @@ short-from-same [] hs result = refl
 short-from-same (c ∷ cs) [] result = refl
 short-from-same (c ∷ cs) (h ∷ hs) result =
     on-clause-same c h (shortFrom cs hs result) ∙ ap (Tapes.onClause c h) (short-from-same cs hs result)
-
-abbrev pub shortened : Tape → Box → Tape
-shortened t b =
-    record {
-      slots = t .slots;
-      clauses = shortFrom (t .clauses) (choicesFrom (t .clauses) b (noRanges (t .slots)))
-          (lastOut (t .clauses)) .clauses;
-    }
-
-pub shortened-same : (t : Tape) (b : Box) → shortened t b ≡ Tapes.shortened t b
-unfolding Tapes.shortened
-shortened-same t b =
-    let cs = t .clauses in
-    let hs = choicesFrom cs b (noRanges (t .slots)) in
-    let e = choices-same cs b (noRanges (t .slots)) ∙ ap (Tapes.choicesFrom cs b) (no-ranges-same (t .slots)) in
-    ap
-    (λ (k : Kept). record { slots = t .slots; clauses = k .clauses })
-    (short-from-same cs hs (lastOut cs) ∙ ap (λ (l : List ℕ). Tapes.shortFrom cs l (lastOut cs)) e)
 
 -- Clauses from lists: refusals 5 to 9 with the clause.
 abbrev pub clauseFault : ℕ → List ℕ → Raw → ℕ

@@ -1,5 +1,6 @@
 -- Values and ranges as the paper of formal statements has them, word for word, and each equal to the definition used
--- here. Where text and parts are the same nothing is repeated: `pick`, `isNeg`, `top`, `rootFrom`, the records.
+-- here. Where text and parts are the same nothing is repeated: `pick`, `isNeg`, `top`, `rootFrom`, the records. What a
+-- request has changed since is not here (docs/DECISIONS.md): the range of a clause with two operands.
 use mathlib.Core.Path.{_≡_, refl, sym, ap, ap₂, _∙_}
 use mathlib.Core.Bool.{Bool, true, false, _&&_, not}
 use lib.IntN.{ℤ, pos, negsuc, negℤ, natAbs, subℕ, _+ℤ_, _-ℤ_, _*ℤ_}
@@ -8,7 +9,7 @@ use native.Mathlib.Omega.{arith}
 use lib.Dec.{eqb, ltb, leb, leb·suc-suc}
 use borrow.Author.Tests.{ltb-true, ltb-false, leb-true, leb-false, le-ltb, lt-ltb}
 use Rattle.rules.specs.Values
-use Rattle.rules.specs.Values.{pick, isNeg, top, rootFrom, Clause, Sample, Range, range, Box}
+use Rattle.rules.specs.Values.{pick, isNeg, top, rootFrom, Clause, Sample, Range, range}
 
 -- Whole numbers.
 abbrev pub less : ℕ → ℕ → ℤ
@@ -286,36 +287,6 @@ neg-range-same r = range-same (neg-same (r .high)) (neg-same (r .low))
 pub unary-range-same : (o : ℕ) (r : Range) → rangeOf1 o r ≡ Values.unaryRange o r
 unfolding Values.unaryRange
 unary-range-same o r = cc (neg-range-same r, absolute-range-same r, square-range-same r, root-range-same r)
-
-abbrev pub rangeOf2 : ℕ → Range → Range → Range
-rangeOf2 o r s =
-    pick (eqb o 9) (range (clamped (plus (r .low) (s .low))) (clamped (plus (r .high) (s .high))))
-    (pick (eqb o 10) (range (clamped (minus (r .low) (s .high))) (clamped (minus (r .high) (s .low))))
-    (pick (eqb o 11) (productR r s)
-    (pick (eqb o 12) (range (smaller (r .low) (s .low)) (smaller (r .high) (s .high)))
-    (range (larger (r .low) (s .low)) (larger (r .high) (s .high))))))
-
-pub binary-range-same : (c : Clause) (r s : Range) → rangeOf2 (c .opcode) r s ≡ Values.binaryRange c r s
-unfolding Values.binaryRange Values.sumR Values.differenceR Values.smallerR Values.largerR
-binary-range-same c r s =
-    cc (
-      range-same (sum-same (r .low) (s .low)) (sum-same (r .high) (s .high)),
-      range-same (difference-same (r .low) (s .high)) (difference-same (r .high) (s .low)),
-      product-range-same r s,
-      range-same (smaller-same (r .low) (s .low)) (smaller-same (r .high) (s .high)),
-      range-same (larger-same (r .low) (s .low)) (larger-same (r .high) (s .high)),
-    )
-
-abbrev pub rangeOf : ℕ → ℤ → Box → Range → Range → Range
-rangeOf o c b r s =
-    pick (eqb o 0) (range c c)
-    (pick (eqb o 1) (b .xs)
-    (pick (eqb o 2) (b .ys) (pick (eqb o 3) (b .zs) (pick (leb o 8) (rangeOf1 o r) (rangeOf2 o r s)))))
-
-pub range-of-same : (c : Clause) (b : Box) (r s : Range)
-    → rangeOf (c .opcode) (c .constant) b r s ≡ Values.rangeOf c b r s
-unfolding Values.rangeOf
-range-of-same c b r s = cc (unary-range-same (c .opcode) r, binary-range-same c r s)
 
 -- Choices of a minimum and a maximum: 1 left, 2 right, 0 both.
 abbrev pub choiceOf : ℕ → Range → Range → ℕ

@@ -69,13 +69,22 @@ fn sample(r: &mut Random, grid: &Grid) -> i32 {
     grid.sample(axis, r.below(grid.sizes[axis] as u64) as u32) as i32
 }
 
+/// Half of the products are of a slot by itself.
+fn right_slot(r: &mut Random, opcode: u64, left: i32, written: &[i32]) -> i32 {
+    match opcode {
+        0..=8 => 0,
+        11 if r.one_in(2) => left,
+        _ => r.pick(written),
+    }
+}
+
 fn list(r: &mut Random, grid: &Grid, slots: u64, count: u64, kind: &Kind) -> List {
     let mut written: Vec<i32> = Vec::new();
     let mut clauses = Vec::new();
     for _ in 0..count {
         let opcode = if written.is_empty() { r.below(4) } else { (kind.opcode)(r) };
         let left = if opcode >= 4 { r.pick(&written) } else { 0 };
-        let right = if opcode >= 9 { r.pick(&written) } else { 0 };
+        let right = right_slot(r, opcode, left, &written);
         let constant = if opcode == 0 { (kind.constant)(r, grid) } else { 0 };
         let out = if opcode >= 9 && r.one_in(3) { left } else { r.below(slots) as i32 };
         clauses.push([opcode as i32, out, left, right, constant]);
@@ -97,7 +106,8 @@ pub fn random(r: &mut Random, grid: &Grid) -> List {
     list(r, grid, slots, count, &CHOICES)
 }
 
-/// A short list of arithmetic; its result often goes past an end of the range and back, or is a product about 0.
+/// A short list of arithmetic; its result often goes past an end of the range and back, or is a product about 0, or a
+/// product by itself less some value.
 pub fn arithmetic(r: &mut Random, grid: &Grid) -> List {
     let (slots, count) = (2 + r.below(3), 3 + r.below(7));
     let mut list = list(r, grid, slots, count, &ARITHMETIC);
@@ -107,9 +117,14 @@ pub fn arithmetic(r: &mut Random, grid: &Grid) -> List {
         list.clauses.push([what[0], other, 0, 0, what[1]]);
         list.clauses.push([opcode, result, result, other, 0]);
     };
-    match r.below(3) {
+    match r.below(4) {
         0 => [0; 2].iter().for_each(|_| and_then([0, end(r)], r.pick(&[9, 10]))),
         1 => and_then([r.pick(&[1, 2, 3]), 0], 11),
+        2 => {
+            list.clauses.push([11, result, result, result, 0]);
+            list.clauses.push([0, other, 0, 0, r.within(0, 3_000_000) as i32]);
+            list.clauses.push([10, result, result, other, 0]);
+        }
         _ => {}
     }
     list

@@ -10,6 +10,7 @@ const SQUARE: i32 = 7;
 const ROOT: i32 = 8;
 const ADD: i32 = 9;
 const SUBTRACT: i32 = 10;
+const MULTIPLY: i32 = 11;
 const MINIMUM: i32 = 12;
 const MAXIMUM: i32 = 13;
 
@@ -52,6 +53,16 @@ impl Maker<'_> {
         out
     }
 
+    /// The square, as its own operation or as a product of the slot by itself.
+    fn square(&mut self, of: i32) -> i32 {
+        let out = self.operation(SQUARE, &[of]);
+        if self.r.one_in(2) {
+            let last = self.clauses.last_mut().expect("the square");
+            (last[0], last[3]) = (MULTIPLY, of);
+        }
+        out
+    }
+
     /// The distance along an axis from some sample of the grid.
     fn along(&mut self, axis: usize) -> i32 {
         let index = self.r.below(self.grid.sizes[axis] as u64) as u32;
@@ -69,7 +80,7 @@ impl Maker<'_> {
     fn ball(&mut self) -> i32 {
         let squares = [0, 1, 2].map(|axis| {
             let distance = self.along(axis);
-            self.operation(SQUARE, &[distance])
+            self.square(distance)
         });
         let plane = self.operation(ADD, &squares[..2]);
         let sum = self.operation(ADD, &[plane, squares[2]]);

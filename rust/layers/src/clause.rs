@@ -161,7 +161,7 @@ impl Clause {
         Clause::binary(Opcode::Subtract, out, left, right)
     }
 
-    /// Writes `left` times `right` to `out`.
+    /// Writes `left` times `right` to `out`. A slot times itself is bounded as tightly as its square.
     pub const fn multiply(out: u8, left: u8, right: u8) -> Clause {
         Clause::binary(Opcode::Multiply, out, left, right)
     }

@@ -1,7 +1,8 @@
 //! Shapes, put together from simple ones, and the formula of each: below 0 exactly in its material.
 //!
 //! Lengths are millimetres. Squares are clamped at 32,768, so a part should stay within about 100 of the origin. Every
-//! formula is a distance, or near one: such a formula has tight bounds over a region, on which tiles depend.
+//! formula is a distance, or near one: such a formula has tight bounds over a region, on which tiles depend. The shapes
+//! `by_products` alone are no distances, so that they can have neither round edges nor a wall.
 
 use crate::formula::{Formula, Id, nearest};
 use layers::Opcode;
@@ -24,6 +25,8 @@ enum Kind {
     /// All points nearer than a limit to the origin, as measured along some directions at right angles: a slab for one,
     /// an endless cylinder for two, a sphere for three.
     Near(Vec<Direction>, f64),
+    /// The same, by a sum of products.
+    NearByProducts(Vec<Direction>, f64),
     Union(Vec<Shape>),
     Meet(Vec<Shape>),
     Outside(Shape),
@@ -77,12 +80,22 @@ pub fn block(low: [f64; 3], high: [f64; 3]) -> Shape {
     intersection([slab(X, low[0], high[0]), slab(Y, low[1], high[1]), slab(Z, low[2], high[2])])
 }
 
-/// A cylinder without ends, along a direction through the origin.
-pub fn rod(along: Direction, radius: f64) -> Shape {
+/// Two directions at right angles to one and to each other.
+fn across(along: Direction) -> Vec<Direction> {
     // An axis across, if there is one, makes for a short formula.
     let axis = [X, Y, Z].into_iter().min_by(|a, b| dot(*a, along).abs().total_cmp(&dot(*b, along).abs()));
     let first = direction(cross(cross(along, axis.unwrap()), along));
-    Shape::new(Kind::Near(vec![first, cross(along, first)], radius))
+    vec![first, cross(along, first)]
+}
+
+/// A cylinder without ends, along a direction through the origin.
+pub fn rod(along: Direction, radius: f64) -> Shape {
+    Shape::new(Kind::Near(across(along), radius))
+}
+
+/// The same the way it is often written by hand: x·x + y·y − r·r.
+pub fn rod_by_products(along: Direction, radius: f64) -> Shape {
+    Shape::new(Kind::NearByProducts(across(along), radius))
 }
 
 /// A cylinder along a direction through the origin, between two places of it.
@@ -93,6 +106,11 @@ pub fn cylinder(along: Direction, radius: f64, low: f64, high: f64) -> Shape {
 /// A sphere round the origin.
 pub fn sphere(radius: f64) -> Shape {
     Shape::new(Kind::Near(vec![X, Y, Z], radius))
+}
+
+/// The same the way it is often written by hand: x·x + y·y + z·z − r·r.
+pub fn sphere_by_products(radius: f64) -> Shape {
+    Shape::new(Kind::NearByProducts(vec![X, Y, Z], radius))
 }
 
 /// Everything in any of the shapes.
@@ -156,6 +174,12 @@ impl Shape {
                 let distance = distance(f, directions, w);
                 surface(f, distance, *limit, w)
             }
+            Kind::NearByProducts(directions, limit) => {
+                assert!(w.grown == 0.0, "a sum of products has no round edges");
+                let places = directions.iter().map(|&d| place_from(f, d, w.at)).collect();
+                let sum = sum_of(f, places, |f, place| f.binary(Opcode::Multiply, place, place));
+                surface(f, sum, limit * limit, w)
+            }
             Kind::Shell(shape, limit) => {
                 let value = shape.build(f, Wanted { outside: false, turned: false, grown: 0.0, ..w });
                 let distance = f.unary(Opcode::Absolute, value);
@@ -207,9 +231,14 @@ fn distance(f: &mut Formula, directions: &[Direction], w: Wanted) -> Id {
 }
 
 fn root_of_squares(f: &mut Formula, places: Vec<Id>) -> Id {
-    let squares: Vec<Id> = places.into_iter().map(|place| f.unary(Opcode::Square, place)).collect();
-    let sum = squares.into_iter().reduce(|all, one| f.binary(Opcode::Add, all, one)).expect("no direction");
+    let sum = sum_of(f, places, |f, place| f.unary(Opcode::Square, place));
     f.unary(Opcode::Root, sum)
+}
+
+/// The sum of what is made of each place.
+fn sum_of(f: &mut Formula, places: Vec<Id>, term: fn(&mut Formula, Id) -> Id) -> Id {
+    let terms: Vec<Id> = places.into_iter().map(|place| term(f, place)).collect();
+    terms.into_iter().reduce(|all, one| f.binary(Opcode::Add, all, one)).expect("no direction")
 }
 
 /// The place along a direction or its opposite, whichever is upward, from a given point.

@@ -62,6 +62,7 @@ fn needs(formula: &Formula) -> Vec<usize> {
         let need = match formula.node(id).reads()[..] {
             [] => 1,
             [a] => needs[a],
+            [a, b] if a == b => needs[a],
             [a, b] if needs[a] == needs[b] => needs[a] + 1,
             [a, b] => needs[a].max(needs[b]),
             _ => unreachable!("an operation reads two at most"),

@@ -40,6 +40,14 @@ listed! {
         ThirdStepRead,
         /// A refused input leaves a count on descriptor 2.
         CountWhenRefused,
+        /// A multiply of a slot by itself has the range of any product: the right picture, the wrong count.
+        NoSquare,
+        /// The same, in short tapes alone.
+        NoSquareInShort,
+        /// A multiply of any two slots has the range of the left one's square.
+        SquareOfTwoSlots,
+        /// Two slots count as one where their ranges are equal.
+        SquareByRanges,
     }
 }
 

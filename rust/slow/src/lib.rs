@@ -1,5 +1,5 @@
-//! The rules of the scope paper in plain Rust, with wide integers and no cleverness, for tests to compare with. Written
-//! from the paper alone. Nothing here is fast or proved.
+//! The rules of the scope paper, and of the requests after it, in plain Rust, with wide integers and no cleverness, for
+//! tests to compare with. Written from the papers alone. Nothing here is fast or proved.
 
 /// An enum and the list of its cases.
 macro_rules! listed {

@@ -25,6 +25,8 @@ listed! {
         ChoseItself,
         /// A clause that reads the slot it writes was kept.
         ReadsItsOut,
+        /// A multiply of a slot by itself was run over a range with both signs.
+        Squared,
     }
 }
 

@@ -139,3 +139,33 @@ fn given(tape: &Tape, short: &Tape, sibling: &Option<Tape>) -> Tape {
         _ => short.clone(),
     }
 }
+
+#[cfg(test)]
+mod tests {
+    use super::*;
+    use crate::fault;
+
+    /// The disc x·x + y·y − 9 on 24 by 24 samples: pixels with material, and the count.
+    fn disc() -> (usize, u64) {
+        let list = [
+            [1, 0, 0, 0, 0],
+            [11, 0, 0, 0, 0],
+            [2, 1, 0, 0, 0],
+            [11, 1, 1, 1, 0],
+            [9, 0, 0, 1, 0],
+            [0, 1, 0, 0, 9 * 65_536],
+            [10, 0, 0, 1, 0],
+        ];
+        let tape = Tape::from_list(2, &list.concat()).expect("an accepted list");
+        let grid = Grid { sizes: [24, 24, 1], origins: [-786_432, -786_432, 0], steps: [65_536; 3] };
+        let (heights, count) = walk(&tape, &grid, false);
+        (heights.iter().filter(|&&h| h == 1).count(), count)
+    }
+
+    /// Figures of the request for tighter spheres.
+    #[test]
+    fn a_disc_of_products() {
+        assert_eq!(disc(), (25, 518));
+        assert_eq!(fault::with(Fault::NoSquare, disc), (25, 1_414));
+    }
+}

@@ -7,6 +7,7 @@ use checks::program;
 use checks::random::Random;
 use layers::raw;
 use slow::draw::Grid;
+use slow::tape::Tape;
 
 /// The paper's tape of three clauses: an axis, the constant 131,072, their difference.
 fn tape(opcode: u8) -> Vec<u8> {
@@ -30,6 +31,21 @@ fn long_tape(clauses: u16) -> Vec<u8> {
         tape.extend([0x43, 0x4C, 0, 0, 0, 0, 7, 0, 0, 0]);
     }
     tape
+}
+
+/// The disc x·x + y·y − 9, each product of a slot by itself, on 24 by 24 samples from −12 on.
+fn disc() -> Drawing {
+    let list = [
+        [1, 0, 0, 0, 0],
+        [11, 0, 0, 0, 0],
+        [2, 1, 0, 0, 0],
+        [11, 1, 1, 1, 0],
+        [9, 0, 0, 1, 0],
+        [0, 1, 0, 0, 9 * 65_536],
+        [10, 0, 0, 1, 0],
+    ];
+    let tape = Tape::from_list(2, &list.concat()).expect("an accepted list").to_bytes();
+    Drawing::new(tape, Grid { origins: [-786_432, -786_432, 0], ..grid([24, 24, 1]) })
 }
 
 fn done(count: u64) -> raw::Answer {
@@ -86,6 +102,20 @@ fn three_clauses_on_a_column() {
 
     let input = program::input(&drawing.grid, &drawing.tape);
     assert_eq!(run(&input), (file.to_vec(), b"18\n".to_vec(), Some(0)));
+}
+
+/// The request for tighter spheres: 518 clauses in place of 1,414.
+#[test]
+fn a_disc_of_products() {
+    let drawing = disc();
+    let (mut full, mut tiles, mut work) = ([0xFF; 72], [0xFF; 72], vec![0xFF; raw::WORK]);
+    assert_eq!(raw::draw_flat(&drawing.tape, drawing.core_grid(), &mut full), done(7 * 24 * 24));
+    assert_eq!(raw::tile_flat(&drawing.tape, drawing.core_grid(), &mut tiles, &mut work), done(518));
+    assert_eq!(full, tiles);
+    assert_eq!(tiles.iter().map(|byte| byte.count_ones()).sum::<u32>(), 25);
+
+    let (_, count, _) = run(&program::flat_input(&drawing.grid, &drawing.tape));
+    assert_eq!(count, b"518\n");
 }
 
 #[test]

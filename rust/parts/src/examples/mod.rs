@@ -5,9 +5,10 @@ mod gear;
 mod housing;
 mod lattice;
 mod lettering;
+mod tray;
 
 use crate::Design;
 
 pub fn designs() -> Vec<Design> {
-    vec![bracket::bracket(), gear::gear(), housing::housing(), lettering::lettering(), lattice::lattice()]
+    vec![bracket::bracket(), gear::gear(), housing::housing(), lettering::lettering(), lattice::lattice(), tray::tray()]
 }

@@ -1,6 +1,7 @@
 //! The example parts are within the limits, and the files of the repository are theirs.
 
 use crate::common::value_at;
+use layers::Opcode;
 use parts::{Part, all, picture};
 use std::path::{Path, PathBuf};
 
@@ -43,6 +44,16 @@ fn no_other_files_are_there() {
 fn lettering_is_near_the_limit() {
     let lettering = all().into_iter().find(|part| part.name == "lettering").unwrap();
     assert!((950..=1024).contains(&lettering.clauses()));
+}
+
+/// Where a part is written with products, each is of a slot by itself.
+#[test]
+fn tray_has_products_for_squares() {
+    let tray = all().into_iter().find(|part| part.name == "tray").unwrap();
+    let clauses = tray.tape.clauses();
+    let products: Vec<_> = clauses.iter().filter(|clause| clause.opcode == Opcode::Multiply).collect();
+    assert!(products.len() >= 12 && products.iter().all(|clause| clause.left == clause.right));
+    assert!(clauses.iter().all(|clause| clause.opcode != Opcode::Square));
 }
 
 /// The core's material is where the formula is below 0.

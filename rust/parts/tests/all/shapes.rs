@@ -42,6 +42,21 @@ fn simple_shapes() {
     agrees(rod(direction([1.0, 1.0, 0.0]), 5.0).translate([0.0, 0.0, 2.0]), across);
 }
 
+#[test]
+fn shapes_by_products() {
+    agrees(sphere_by_products(8.0), |p| length(&p) - 8.0);
+    agrees(rod_by_products(X, 5.0).translate([0.0, 1.0, -2.0]), |[_, y, z]| length(&[y - 1.0, z + 2.0]) - 5.0);
+    let drilled = sphere_by_products(11.0).without(rod_by_products(Z, 5.0));
+    agrees(drilled, |p| (length(&p) - 11.0).max(5.0 - length(&p[..2])));
+}
+
+/// A sum of products is no distance, so that its faces cannot be moved.
+#[test]
+#[should_panic(expected = "no round edges")]
+fn products_have_no_round_edges() {
+    sphere_by_products(8.0).within(plane(X, 0.0)).rounded(1.0).formula(&mut Formula::default());
+}
+
 fn box_rule([x, y, z]: [f64; 3]) -> f64 {
     (x.abs() - 9.0).max(y.abs() - 7.0).max(z.abs() - 5.0)
 }
