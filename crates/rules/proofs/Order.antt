@@ -3,7 +3,7 @@ use mathlib.Core.Path.{_≡_, refl, ap}
 use mathlib.Core.Logic.{_⊎_, inl, inr}
 use mathlib.Core.Bool.{Bool, true, false, _&&_, not, cond, true≢false, false≢true}
 use lib.IntN.{ℤ, pos, negsuc, negℤ, natAbs, subℕ, _+ℤ_, _-ℤ_}
-use Prim.Native.Nat.{ℕ, zero, suc, _+_, _-_, _≤_, _<_}
+use Prim.Native.Nat.{ℕ, zero, suc, _+_, _-_, _/_, _≤_, _<_}
 use lib.Dec.{ltb}
 use native.Mathlib.Nat.{mul-le-mul-right}
 use native.Mathlib.Omega.{arith}
@@ -180,5 +180,7 @@ above-natural {a = negsuc a} {b = negsuc b} h e = e
 
 -- Samples along an axis do not fall.
 pub at-rises : (o s : ℤ) → below (pos 0) s ≡ true → (i j : ℕ) → i ≤ j → AtMost (at o s i) (at o s j)
-at-rises o (pos c) e i j h = sum-rises (at-most-refl o) (record { le = omega (arith, mul-le-mul-right c h) })
+at-rises o (pos c) e i j h =
+    sum-rises (sum-rises (at-most-refl o) (record { le = omega (arith, mul-le-mul-right c h) }))
+    (at-most-refl (pos (c / 2)))
 at-rises o (negsuc c) e i j h = absurd (false≢true e)
