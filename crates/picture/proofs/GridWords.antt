@@ -42,8 +42,8 @@ in-words g =
       zstep = record { sfits = s .1 .1 .1 .1 .1 .0 .1 };
     }
 
--- A sample in 64 bits: step and origin have 32 bits, the index has 32 without a sign. Up to half a step no sum leaves
--- 64 bits.
+-- A sample in 64 bits: step and origin have 32 bits, the index has 32 without a sign. The
+-- beginning of a cell never leaves 64 bits.
 record Bounded (a b : ℕ) (z : ℤ) : Type 0 where
   above : up z ≤ a
   under : down z ≤ b
@@ -119,7 +119,7 @@ module _ (o s : ℤ) (i : ℕ) (fo : SFits w32 o) (fs : SFits w32 s) (fi : Fits 
       → read w64 (read w64 (wide o +ℤ read w64 (toZ w64 i *ℤ wide s)) +ℤ read w64 (shrZ (wide s) 2)) ≡ at o s i
   sample-is f = ap (read w64) sample-same ∙ toZ-ofZ f
 
--- A sample has 64 bits if its axis rises, and if it is a value.
+-- A sample has 64 bits if its axis rises.
 pub rising-fits : (o s : ℤ) (i : ℕ) → SFits w32 o → SFits w32 s → Fits w32 i → ltZ s (pos 1) ≡ false
     → SFits w64 (at o s i)
 rising-fits o (pos c) i fo fs fi e =
