@@ -47,7 +47,10 @@ typedef struct {
     uint8_t slots;
 } LayersListed;
 
-/* Sample i on an axis is first + i * step. A flat drawing reads neither depth nor zstep; its one z is zfirst. */
+/*
+ * Sample i on an axis is first + i * step + step / 2, rounded down: each pixel stands for the middle of its cell. A
+ * flat drawing reads neither depth nor zstep; its one z is zfirst as it is given.
+ */
 typedef struct {
     uint32_t width;
     uint32_t height;
