@@ -1,4 +1,4 @@
-/* The part x - 2, sampled at x = 0, 1 and 2 on two rows: packed, drawn by tiles, written as a Netpbm bitmap. */
+/* The part x - 2, sampled at x = 0.5, 1.5 and 2.5 on two rows: packed, drawn by tiles, written as a Netpbm bitmap. */
 #include "layers.h"
 #include <stdio.h>
 

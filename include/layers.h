@@ -58,7 +58,10 @@ typedef struct {
     uint8_t slots;
 } LayersListed;
 
-/* Sample i on an axis is origin + i * step. A flat drawing reads neither depth nor zstep; its one z is zorigin. */
+/*
+ * Sample i on an axis is origin + i * step + step / 2, rounded down: each pixel stands for the middle of its cell. A
+ * flat drawing reads neither depth nor zstep; its one z is zorigin as it is given.
+ */
 typedef struct {
     uint32_t width;
     uint32_t height;

@@ -2,6 +2,8 @@
 ghost use mathlib.Core.Path.{_≡_};
 ghost use mathlib.Core.Bool.{true};
 ghost use Prim.Native.Nat.{_≤_};
+ghost use mir.Syntax.{w64};
+ghost use mir.Val.{SFits};
 ghost use Rattle.rules.specs.Values.{IsValue, reaches};
 ghost use Rattle.rules.specs.Drawings.{at, sizeOk, axisOk, sizesOk, axesOk, gridFault};
 ghost use Rattle.picture.specs.Shapes.{gridIn};
@@ -24,11 +26,12 @@ pub struct Grid {
     pub zstep: i32,
 }
 
-// Sample i of an axis, also one that is no value.
+// Sample i of an axis, in the middle of cell i, also one that is no value. With a step below 0 it can leave 64 bits.
 fn along(origin: i32, step: i32, i: u32) -> i64
+    requires { ⌜ SFits w64 (at origin step i) ⌝ }
     ensures { λ r. ⌜ r ≡ at origin step i ⌝ }
 {
-    origin as i64 + i as i64 * step as i64
+    origin as i64 + i as i64 * step as i64 + (step as i64 >> 1)
 }
 
 // Sample i of an axis.

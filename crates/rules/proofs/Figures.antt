@@ -1,6 +1,7 @@
 -- The figures that the scope paper marks to be proved (★), some of its worded rules at numbers, and the figures of the
 -- requests, as rows of one list: what a definition gives, and what the paper says.
 use mathlib.Core.Path.{_≡_, refl}
+use mathlib.Core.Bool.{false}
 use mathlib.Core.List.{List, [], _∷_, _++_, map}
 use lib.IntN.{ℤ, pos, negℤ}
 use Prim.Native.Nat.{ℕ}
@@ -10,6 +11,7 @@ use Rattle.rules.specs.Values.{negR, smallerR, largerR, unaryRange, bina
 use Rattle.rules.specs.Values.{multipliedR, choiceOf}
 use Rattle.rules.specs.Tapes.{Tape, noRange, choicesFrom, reads, isIn, without, onClause, shortFrom, lastOut}
 use Rattle.rules.specs.Tapes.{rangeFrom, rangeOver, shortened, listOf}
+use Rattle.rules.specs.Drawings.{Grid, at, sampleAt, gridFault}
 
 -- A row of numbers: a range is its two ends, a tape is its list.
 pub record Row : Type 0 where
@@ -57,6 +59,40 @@ four =
       clauses = clause 1 0 0 0 (pos 0)
           ∷ (clause 0 1 0 0 (pos 0) ∷ (clause 12 1 0 1 (pos 0) ∷ (clause 9 1 1 0 (pos 0) ∷ [])));
     }
+
+-- A row of n samples along x, from the origin o on in steps of s; z is 5 where the depth d is 0.
+abbrev pub alongOne : ℤ → ℤ → ℕ → ℕ → Grid
+alongOne o s n d =
+    record {
+      width = n;
+      height = 1;
+      depth = d;
+      originX = o;
+      originY = pos 0;
+      originZ = pos 5;
+      stepX = s;
+      stepY = pos 1;
+      stepZ = pos 3;
+    }
+
+abbrev pub refused : ℤ → ℤ → ℕ → ℕ → Row
+refused o s n k = number (pos (gridFault false (alongOne o s n 0))) (pos k)
+
+-- Request T-03: odd steps; a flat z and the first of a solid; line 11 at the ends of the values.
+abbrev pub middles : List Row
+middles =
+    number (at (pos 0) (pos 3) 0) (pos 1)
+    ∷ (number (at (pos 0) (pos 3) 1) (pos 4)
+    ∷ (number (at (pos 0) (pos 3) 2) (pos 7)
+    ∷ (number (sampleAt (alongOne (pos 0) (pos 3) 1 0) 0 0 0 .z) (pos 5)
+    ∷ (number (sampleAt (alongOne (pos 0) (pos 3) 1 1) 0 0 0 .z) (pos 6)
+    ∷ (refused (pos 2147483647) (pos 1) 1 0
+    ∷ (refused (pos 2147483647) (pos 2) 1 11
+    ∷ (number (at (minus 2147483647) (pos 2147483647) 0) (minus 1073741824)
+    ∷ (number (at (minus 2147483647) (pos 2147483647) 1) (pos 1073741823)
+    ∷ (refused (minus 2147483647) (pos 2147483647) 2 0
+    ∷ (refused (minus 2147483647) (pos 2147483647) 3 11
+    ∷ []))))))))))
 
 -- The marked figures, in the paper's order.
 abbrev pub starred : List Row
@@ -122,10 +158,11 @@ oneSlot =
     ∷ [])))
 
 abbrev pub rows : List Row
-rows = starred ++ worded ++ oneSlot
+rows = starred ++ worded ++ oneSlot ++ middles
 
 pub figures : map (λ r. r .given) rows ≡ map (λ r. r .said) rows
 unfolding smaller larger sum difference product square rootFrom rootOf holdsZero absoluteR squareR rootR productR sumR
     differenceR negR smallerR largerR unaryRange multipliedR binaryRange rangeOf rangeFrom rangeOver sideBelow sideAbove
-    choiceOf choicesFrom reads isIn without onClause shortFrom lastOut shortened listOf
+    choiceOf choicesFrom reads isIn without onClause shortFrom lastOut shortened listOf sampleAt
+    gridFault
 figures = refl

@@ -1,14 +1,15 @@
 -- What an accepted grid gives: every sample of a region lies in the region's box, whose ends are values.
-use mathlib.Core.Path.{_≡_, refl, ap, subst, _∙_}
+use mathlib.Core.Path.{_≡_, refl}
 use mathlib.Core.Bool.{Bool, true, false, _&&_, not, false≢true}
-use lib.IntN.{ℤ, pos, zero-*ℤ, +ℤ-idr, _+ℤ_}
+use lib.IntN.{ℤ, pos}
 use Prim.Native.Nat.{ℕ, _+_, _-_, _≤_, _<_}
 use native.Mathlib.Omega.{arith}
 use borrow.Author.Tests.{not-false}
 use Rattle.rules.specs.Values.{pick, when, IsValue, below, reaches, range}
 use Rattle.rules.specs.Drawings.{Grid, at, solid, sampleAt, axisOk, sizesOk, axesOk, gridFault, Region, lesser}
 use Rattle.rules.specs.Drawings.{boxOf}
-use Rattle.rules.proofs.Order.{AtMost, Holds, HoldsBox, at-most-refl, value-between, reaches-value, at-rises}
+use Rattle.rules.proofs.Order.{Holds, HoldsBox, at-most-refl, value-between, reaches-value, at-rises}
+use Rattle.rules.proofs.Order.{above-origin}
 use Rattle.rules.proofs.Tests.{and-left, and-right, tests-after, last-off}
 use Rattle.rules.proofs.Regions.{Inside, InGrid, lesser-most, lesser-both, Fits, grid-fits}
 
@@ -18,13 +19,9 @@ pub record Axis (o s : ℤ) (n : ℕ) : Type 0 where
   pub rises : below (pos 0) s ≡ true
   pub last : IsValue (at o s (n - 1))
 
-at-zero : (o s : ℤ) → at o s 0 ≡ o
-at-zero o s = ap (λ v. o +ℤ v) (zero-*ℤ s) ∙ +ℤ-idr o
-
 pub axis-value : {o s : ℤ} {n : ℕ} → Axis o s n → (i : ℕ) → i < n → IsValue (at o s i)
 axis-value {o} {s} {n} a i l =
-    value-between (at o s i) (a .origin) (a .last)
-    (subst (λ v. AtMost v (at o s i)) (at-zero o s) (at-rises o s (a .rises) 0 i (omega arith)))
+    value-between (at o s i) (a .origin) (a .last) (above-origin o s (a .rises) i)
     (at-rises o s (a .rises) i (n - 1) (omega arith))
 
 -- The sample x lies between the first and the last of l samples from i on, cut at the grid's edge.
@@ -69,14 +66,11 @@ box-holds {g} a r x y z i k =
 -- The tests of a grid's axes, as facts.
 axis-ok : (o s : ℤ) (n : ℕ) → axisOk o s n ≡ true → Axis o s n
 axis-ok o s n e =
-    let c = reaches (at o s (n - 1)) in
-    let b = reaches s && c in
-    let a = below (pos 0) s && b in
-    let f = and-right (reaches o) a e in
+    let f = and-right (reaches o) _ e in
     record {
-      origin = reaches-value o (and-left (reaches o) a e);
-      rises = and-left (below (pos 0) s) b f;
-      last = reaches-value (at o s (n - 1)) (and-right (reaches s) c (and-right (below (pos 0) s) b f));
+      origin = reaches-value o (and-left (reaches o) _ e);
+      rises = and-left (below (pos 0) s) _ f;
+      last = reaches-value (at o s (n - 1)) (and-right (reaches s) _ (and-right (below (pos 0) s) _ f));
     }
 
 z-ok : (t : Bool) (o s : ℤ) (n : ℕ) → pick t (axisOk o s n) (reaches o) ≡ true → (t ≡ true → Axis o s n) × IsValue o

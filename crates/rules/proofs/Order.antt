@@ -3,7 +3,7 @@ use mathlib.Core.Path.{_≡_, refl, ap}
 use mathlib.Core.Logic.{_⊎_, inl, inr}
 use mathlib.Core.Bool.{Bool, true, false, _&&_, not, cond, true≢false, false≢true}
 use lib.IntN.{ℤ, pos, negsuc, negℤ, natAbs, subℕ, _+ℤ_, _-ℤ_}
-use Prim.Native.Nat.{ℕ, zero, suc, _+_, _-_, _≤_, _<_}
+use Prim.Native.Nat.{ℕ, zero, suc, _+_, _-_, _*_, _≤_, _<_}
 use lib.Dec.{ltb}
 use native.Mathlib.Nat.{mul-le-mul-right}
 use native.Mathlib.Omega.{arith}
@@ -178,7 +178,15 @@ above-natural {a = a} {b = pos b} h e = refl
 above-natural {a = pos a} {b = negsuc b} h e = absurd (omega arith)
 above-natural {a = negsuc a} {b = negsuc b} h e = e
 
--- Samples along an axis do not fall.
+-- Samples along an axis do not fall, and none lies below the origin.
 pub at-rises : (o s : ℤ) → below (pos 0) s ≡ true → (i j : ℕ) → i ≤ j → AtMost (at o s i) (at o s j)
-at-rises o (pos c) e i j h = sum-rises (at-most-refl o) (record { le = omega (arith, mul-le-mul-right c h) })
+at-rises o (pos c) e i j h =
+    sum-rises (sum-rises (at-most-refl o) (record { le = omega (arith, mul-le-mul-right c h) })) (at-most-refl _)
 at-rises o (negsuc c) e i j h = absurd (false≢true e)
+
+with-natural : (a : ℤ) (n : ℕ) → AtMost a (a +ℤ pos n)
+with-natural a n = record { le = omega (arith, sum-parts a (pos n)) }
+
+pub above-origin : (o s : ℤ) → below (pos 0) s ≡ true → (i : ℕ) → AtMost o (at o s i)
+above-origin o (pos c) e i = at-most-trans (with-natural o (i * c)) (with-natural (o +ℤ pos (i * c)) _)
+above-origin o (negsuc c) e i = absurd (false≢true e)

@@ -1,140 +1,23 @@
 -- Drawings as the paper of formal statements has them, word for word, and each equal to the definition used here. Where
 -- text and parts are the same nothing is repeated: the records, `solid`, `layers`, `pastX`, `filled`, `hidden`,
--- `alongX`, `fold`. The walk's visits rest on ranges, which are no longer the paper's own, and are not here.
+-- `alongX`, `fold`. Samples, and so grids, boxes and full drawings, are no longer the paper's own, nor are the ranges
+-- that the walk's visits rest on: these are not here.
 use mathlib.Core.Path.{_≡_, refl, sym, ap, ap₂, _∙_}
-use mathlib.Core.Bool.{Bool, true, false, _&&_, _||_, not}
+use mathlib.Core.Bool.{Bool, true, false, _&&_, not}
 use mathlib.Core.List.{List, [], _∷_, _++_, append-assoc}
-use lib.IntN.{ℤ, pos, negsuc, _+ℤ_}
-use Prim.Native.Nat.{ℕ, zero, suc, _+_, _-_, _*_}
-use native.Mathlib.Omega.{arith}
-use lib.Dec.{eqb, ltb, leb}
-use borrow.Author.Tests.{le-leb, ne-eqb}
+use lib.IntN.{ℤ}
+use Prim.Native.Nat.{ℕ, zero, suc, _+_, _*_}
+use lib.Dec.{ltb, leb}
 use Rattle.rules.specs.Values
-use Rattle.rules.specs.Tapes
 use Rattle.rules.specs.Drawings
-use Rattle.rules.specs.Values.{pick, firstOf, when, isNeg, top, Sample, Range, range, Box}
+use Rattle.rules.specs.Values.{pick, top, Sample, Range, Box}
 use Rattle.rules.specs.Tapes.{Tape}
 use Rattle.rules.specs.Drawings.{Grid, solid, layers, Region, region, pastX, pastY, pastZ, State, state}
-use Rattle.rules.specs.Drawings.{over, alongX, fillIn}
-use Rattle.rules.proofs.RestatedValues.{range-same, plus, plus-same, times, times-same, size, size-same, below}
-use Rattle.rules.proofs.RestatedValues.{below-same}
-use Rattle.rules.proofs.RestatedTapes.{countCl, count-same, material, material-same}
+use Rattle.rules.specs.Drawings.{over, alongX}
+use Rattle.rules.proofs.RestatedValues.{size, size-same, below, below-same}
+use Rattle.rules.proofs.RestatedTapes.{countCl, count-same}
 
--- Samples.
-abbrev pub at : ℤ → ℤ → ℕ → ℤ
-at o s i = plus o (times (pos i) s)
-
-pub at-same : (o s : ℤ) (i : ℕ) → at o s i ≡ Drawings.at o s i
-at-same o s i = plus-same o (times (pos i) s) ∙ ap (λ (z : ℤ). o +ℤ z) (times-same (pos i) s)
-
-abbrev pub sampleAt : Grid → ℕ → ℕ → ℕ → Sample
-sampleAt g i j k =
-    record {
-      x = at (g .originX) (g .stepX) i;
-      y = at (g .originY) (g .stepY) j;
-      z = pick (eqb (g .depth) 0) (g .originZ) (at (g .originZ) (g .stepZ) k);
-    }
-
-flat-or-solid : {A : Type 0} (n : ℕ) (a b : A) → pick (eqb n 0) a b ≡ pick (leb 1 n) b a
-flat-or-solid zero a b = refl
-flat-or-solid (suc n) a b = rw (ne-eqb (suc n) 0 (λ e. omega arith), le-leb 1 (suc n) (omega arith))
-
-pub sample-same : (g : Grid) (i j k : ℕ) → sampleAt g i j k ≡ Drawings.sampleAt g i j k
-unfolding Drawings.sampleAt
-sample-same g i j k =
-    let z = flat-or-solid (g .depth) (g .originZ) (at (g .originZ) (g .stepZ) k) in
-    let e : pick (eqb (g .depth) 0) (g .originZ) (at (g .originZ) (g .stepZ) k)
-    ≡ pick (solid g) (Drawings.at (g .originZ) (g .stepZ) k) (g .originZ) = cc (z, at-same (g .originZ) (g .stepZ) k) in
-    λ t. record { x = at-same (g .originX) (g .stepX) i t; y = at-same (g .originY) (g .stepY) j t; z = e t }
-
--- Sizes and ranges: 10, 11.
-abbrev pub sizeOk : ℕ → Bool
-sizeOk n = leb 1 n && leb n 512
-
-abbrev pub reaches : ℤ → Bool
-reaches z = leb (size z) top
-
-pub reaches-same : (z : ℤ) → reaches z ≡ Values.reaches z
-reaches-same z = ap (λ (n : ℕ). leb n top) (size-same z)
-
-abbrev pub axisOk : ℤ → ℤ → ℕ → Bool
-axisOk o s n = reaches o && (not (isNeg s) && (leb 1 (size s) && (reaches s && reaches (at o s (n - 1)))))
-
-step-same : (s : ℤ) (rest : Bool) → (not (isNeg s) && (leb 1 (size s) && rest)) ≡ (Values.below (pos 0) s && rest)
-step-same (pos a) rest = refl
-step-same (negsuc a) rest = refl
-
-pub axis-same : (o s : ℤ) (n : ℕ) → axisOk o s n ≡ Drawings.axisOk o s n
-axis-same o s n =
-    let l = at o s (n - 1) in
-    cc (
-      step-same s (reaches s && reaches l),
-      reaches-same o,
-      reaches-same s,
-      reaches-same l ∙ ap Values.reaches (at-same o s (n - 1)),
-    )
-
-abbrev pub gridFault : Bool → Grid → ℕ
-gridFault isSolid g =
-    firstOf (when (not (sizeOk (g .width) && (sizeOk (g .height) && (not isSolid || sizeOk (g .depth))))) 10)
-    (when
-    (not (axisOk (g .originX) (g .stepX) (g .width)
-    && (axisOk (g .originY) (g .stepY) (g .height)
-    && pick isSolid (axisOk (g .originZ) (g .stepZ) (g .depth)) (reaches (g .originZ))))) 11)
-
-pub grid-fault-same : (isSolid : Bool) (g : Grid) → gridFault isSolid g ≡ Drawings.gridFault isSolid g
-unfolding Drawings.gridFault
-grid-fault-same isSolid g =
-    cc (
-      axis-same (g .originX) (g .stepX) (g .width),
-      axis-same (g .originY) (g .stepY) (g .height),
-      axis-same (g .originZ) (g .stepZ) (g .depth),
-      reaches-same (g .originZ),
-    )
-
--- Heights by pixel, in row order: 1 + the greatest z with material; 1 or 0 in a flat picture.
-abbrev pub columnFrom : ℕ → Tape → Grid → ℕ → ℕ → ℕ
-columnFrom zero t g i j = 0
-columnFrom (suc k) t g i j =
-    elim (material t (sampleAt g i j k)) [ true ↦ suc k | false ↦ columnFrom k t g i j ]
-
-at-sample-same : (t : Tape) (g : Grid) (i j k : ℕ)
-    → material t (sampleAt g i j k) ≡ Tapes.material t (Drawings.sampleAt g i j k)
-at-sample-same t g i j k = material-same t (sampleAt g i j k) ∙ ap (Tapes.material t) (sample-same g i j k)
-
-pub column-same : (k : ℕ) (t : Tape) (g : Grid) (i j : ℕ) → columnFrom k t g i j ≡ Drawings.columnFrom k t g i j
-unfolding Drawings.columnFrom
-column-same zero t g i j = refl
-column-same (suc k) t g i j =
-    let e = at-sample-same t g i j k in
-    let h = column-same k t g i j in
-    λ p. elim (e p) [ true ↦ suc k | false ↦ h p ]
-
-abbrev pub rowFrom : ℕ → ℕ → ℕ → Tape → Grid → List ℕ
-rowFrom zero i j t g = []
-rowFrom (suc n) i j t g = columnFrom (layers g) t g i j ∷ rowFrom n (suc i) j t g
-
-pub row-same : (n i j : ℕ) (t : Tape) (g : Grid) → rowFrom n i j t g ≡ Drawings.rowFrom n i j t g
-unfolding Drawings.rowFrom
-row-same zero i j t g = refl
-row-same (suc n) i j t g = cc (column-same (layers g) t g i j, row-same n (suc i) j t g)
-
-abbrev pub rowsFrom : ℕ → ℕ → Tape → Grid → List ℕ
-rowsFrom zero j t g = []
-rowsFrom (suc n) j t g = rowFrom (g .width) 0 j t g ++ rowsFrom n (suc j) t g
-
-pub rows-same : (n j : ℕ) (t : Tape) (g : Grid) → rowsFrom n j t g ≡ Drawings.rowsFrom n j t g
-unfolding Drawings.rowsFrom
-rows-same zero j t g = refl
-rows-same (suc n) j t g = cc (row-same (g .width) 0 j t g, rows-same n (suc j) t g)
-
-abbrev pub drawn : Tape → Grid → List ℕ
-drawn t g = rowsFrom (g .height) 0 t g
-
-pub drawn-same : (t : Tape) (g : Grid) → drawn t g ≡ Drawings.drawn t g
-unfolding Drawings.drawn
-drawn-same t g = rows-same (g .height) 0 t g
-
+-- The counts: of the full drawing, and of each run in the walk.
 abbrev pub fullCount : Tape → Grid → ℕ
 fullCount t g = countCl (t .clauses) * (g .width * (g .height * layers g))
 
@@ -142,29 +25,11 @@ pub full-count-same : (t : Tape) (g : Grid) → fullCount t g ≡ Drawings.fullC
 unfolding Drawings.fullCount
 full-count-same t g = ap (λ (n : ℕ). n * (g .width * (g .height * layers g))) (count-same (t .clauses))
 
--- The walk: regions by their first indices and side, cut off at the edge.
-abbrev pub boxOf : Grid → Region → Box
-boxOf g r =
-    record {
-      xs = range (at (g .originX) (g .stepX) (r .i)) (at (g .originX) (g .stepX) (pastX g r - 1));
-      ys = range (at (g .originY) (g .stepY) (r .j)) (at (g .originY) (g .stepY) (pastY g r - 1));
-      zs = pick (solid g)
-          (range (at (g .originZ) (g .stepZ) (r .k)) (at (g .originZ) (g .stepZ) (pastZ g r - 1)))
-          (range (g .originZ) (g .originZ));
-    }
+abbrev pub counted : Tape → State → State
+counted t s = state (s .heights) (s .clauses + countCl (t .clauses))
 
-axis-range-same : (o s : ℤ) (i j : ℕ) → range (at o s i) (at o s j) ≡ range (Drawings.at o s i) (Drawings.at o s j)
-axis-range-same o s i j = range-same (at-same o s i) (at-same o s j)
-
-pub box-same : (g : Grid) (r : Region) → boxOf g r ≡ Drawings.boxOf g r
-unfolding Drawings.boxOf
-box-same g r =
-    let z = range (g .originZ) (g .originZ) in
-    λ t. record {
-      xs = axis-range-same (g .originX) (g .stepX) (r .i) (pastX g r - 1) t;
-      ys = axis-range-same (g .originY) (g .stepY) (r .j) (pastY g r - 1) t;
-      zs = pick (solid g) (axis-range-same (g .originZ) (g .stepZ) (r .k) (pastZ g r - 1) t) z;
-    }
+pub counted-same : (t : Tape) (s : State) → counted t s ≡ Drawings.counted t s
+counted-same t s = ap (λ (n : ℕ). state (s .heights) (s .clauses + n)) (count-same (t .clauses))
 
 -- Children: greatest z first, then rows upward, then columns; within the region and the grid.
 abbrev pub alongY : ℕ → ℕ → ℕ → ℕ → ℕ → ℕ → ℕ → List Region
@@ -233,23 +98,6 @@ children-same g r n =
     let l = over (r .long) n in
     along-z-same (pick (solid g) l 1) l (r .i) (r .j) (r .k) n (pastX g r) (pastY g r) (pastZ g r)
 
--- A sample of the walk.
-abbrev pub counted : Tape → State → State
-counted t s = state (s .heights) (s .clauses + countCl (t .clauses))
-
-pub counted-same : (t : Tape) (s : State) → counted t s ≡ Drawings.counted t s
-counted-same t s = ap (λ (n : ℕ). state (s .heights) (s .clauses + n)) (count-same (t .clauses))
-
-abbrev pub onSample : Tape → Grid → Region → State → State
-onSample t g r s = pick (material t (sampleAt g (r .i) (r .j) (r .k))) (fillIn g r (counted t s)) (counted t s)
-
-pub on-sample-same : (t : Tape) (g : Grid) (r : Region) (s : State) → onSample t g r s ≡ Drawings.onSample t g r s
-unfolding Drawings.onSample
-on-sample-same t g r s =
-    let e = at-sample-same t g (r .i) (r .j) (r .k) in
-    let c = counted-same t s in
-    λ p. pick (e p) (fillIn g r (c p)) (c p)
-
 -- A sample within a box.
 abbrev pub within : ℤ → Range → Bool
 within z r = not (below z (r .low)) && not (below (r .high) z)
@@ -264,6 +112,13 @@ inBox s b = within (s .x) (b .xs) && (within (s .y) (b .ys) && within (s .z) (b 
 pub in-box-same : (s : Sample) (b : Box) → inBox s b ≡ Drawings.inBox s b
 unfolding Drawings.inBox
 in-box-same s b = cc (within-same (s .x) (b .xs), within-same (s .y) (b .ys), within-same (s .z) (b .zs))
+
+-- A number within −M to M.
+abbrev pub reaches : ℤ → Bool
+reaches z = leb (size z) top
+
+pub reaches-same : (z : ℤ) → reaches z ≡ Values.reaches z
+reaches-same z = ap (λ (n : ℕ). leb n top) (size-same z)
 
 abbrev pub endsOk : Range → Bool
 endsOk r = reaches (r .low) && reaches (r .high)

@@ -4,6 +4,7 @@ use mathlib.Core.Bool.{Bool, true, false, _&&_, _||_, not}
 use mathlib.Core.Logic.{_⊎_}
 use mathlib.Core.List.{List, [], _∷_, _++_, map}
 use lib.IntN.{ℤ, pos, _+ℤ_, _*ℤ_}
+use lib.Signed.{shrZ}
 use Prim.Native.Nat.{ℕ, zero, suc, _+_, _-_, _*_, _/_, _<_, _≤_}
 use lib.Dec.{ltb, leb}
 use lib.ListN.{length, getD, set, replicate}
@@ -29,9 +30,9 @@ pub record Grid : Type 0 where
   pub stepY : ℤ
   pub stepZ : ℤ
 
--- "Sample i on an axis is origin + i·step".
+-- "Sample i becomes origin + i·step + floor(step/2) on each axis drawn; the one z of a flat picture is taken as given."
 abbrev pub at : ℤ → ℤ → ℕ → ℤ
-at o s i = o +ℤ pos i *ℤ s
+at o s i = o +ℤ pos i *ℤ s +ℤ shrZ s 2
 
 abbrev pub solid : Grid → Bool
 solid g = leb 1 (g .depth)
@@ -44,7 +45,8 @@ sampleAt g i j k =
       z = pick (solid g) (at (g .originZ) (g .stepZ) k) (g .originZ);
     }
 
--- Lines 10 and 11: "a size not 1 to 512"; "a step below 1, or an origin, z or last sample outside −M to M".
+-- Lines 10 and 11: "a size not 1 to 512"; "a step below 1, or an origin, z or last sample outside −M to M"; of the
+-- samples above, "line 11 tests the last of them".
 abbrev pub sizeOk : ℕ → Bool
 sizeOk n = leb 1 n && leb n sizeLimit
 

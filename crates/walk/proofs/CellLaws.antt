@@ -52,7 +52,7 @@ pub child-in : {layers : ℕ} {grid : Grid} {c : Cell} (x y z : ℕ) → CellOk 
     → z < c .zend → InGrid layers grid x y z
 child-in x y z k hx hy hz = record { x-in = omega arith; y-in = omega arith; z-in = omega arith }
 
--- The first sample and the step of an axis, handed over as words.
+-- The origin and the step of an axis, handed over as words.
 module _ {f s : ℤ} (hf : SFits w32 f) (hs : SFits w32 s) where
   pub span-words : {a e : ℕ} → SpanIn f s a e → SpanIn (read w32 f) (read w32 s) a e
   span-words k = rw (toZ-ofZ {w = w32} {z = f} hf, toZ-ofZ {w = w32} {z = s} hs) k

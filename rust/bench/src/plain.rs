@@ -20,9 +20,10 @@ type Level = [u64; MAX_CLAUSES];
 /// The choices of one run over ranges, a byte a clause.
 type Choices = [u8; MAX_CLAUSES];
 
-/// Sample i of an axis: the sum is a value, so what its parts lose beyond 32 bits is lost in the sum too.
+/// Sample i of an axis, in the middle of its cell: the sum is a value, so what its parts lose beyond 32 bits is lost in
+/// the sum too.
 fn sample(first: i32, step: i32, i: u32) -> i32 {
-    first.wrapping_add(step.wrapping_mul(i as i32))
+    first.wrapping_add(step.wrapping_mul(i as i32)).wrapping_add(step / 2)
 }
 
 /// The samples of an axis from the index `from` to the one before `end`.

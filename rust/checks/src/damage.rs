@@ -1,5 +1,6 @@
 //! Damage to an accepted tape or grid.
 
+use crate::grids::M;
 use crate::random::Random;
 use slow::draw::Grid;
 
@@ -44,6 +45,12 @@ pub fn grid(r: &mut Random, grid: &mut Grid) {
     match r.below(3) {
         0 => grid.sizes[axis] = r.pick(&[0, 513, 65_536, 4_000_000_000]),
         1 => grid.steps[axis] = r.pick(&[0, -1, i32::MAX, i32::MIN]),
-        _ => grid.origins[axis] = r.pick(&[i32::MIN, i32::MAX]),
+        _ => grid.origins[axis] = r.pick(&[i32::MIN, i32::MAX, last_begins_at_the_end(grid, axis)]),
     }
+}
+
+/// An origin with which the last cell of the axis begins at the greatest value, so that its middle lies beyond.
+fn last_begins_at_the_end(grid: &Grid, axis: usize) -> i32 {
+    let before = (grid.sizes[axis] as i64 - 1) * grid.steps[axis] as i64;
+    (M - before).clamp(-M, M) as i32
 }

@@ -5,6 +5,12 @@ use slow::draw::Grid;
 
 pub const M: i64 = 2_147_483_647;
 
+/// Sample i on an axis, also where a fault is planted in the slow drawing's own.
+pub fn sample(grid: &Grid, axis: usize, i: u32) -> i32 {
+    let (origin, step) = (grid.origins[axis] as i64, grid.steps[axis] as i64);
+    (origin + i as i64 * step + step / 2) as i32
+}
+
 /// One sample, a few, odd sizes, sizes about one 64-tile, several tiles.
 fn size(r: &mut Random) -> u32 {
     let size = match r.below(8) {
@@ -29,14 +35,14 @@ fn sizes(r: &mut Random, most: u64) -> [u32; 3] {
 
 /// Origin and step of an axis, anywhere in the range of values: small and great steps, samples at both ends of the range.
 fn wild_axis(r: &mut Random, size: u32) -> (i32, i32) {
-    let spaces = (size as i64 - 1).max(1);
-    let greatest = (2 * M / spaces).min(M);
+    // from −M the last sample, in the middle of its cell, is at most M
+    let greatest = (4 * M / (2 * size as i64 - 1)).min(M);
     let step = match r.below(4) {
         0 => r.within(1, 20),
         1 => r.within(1, greatest),
         _ => r.within(1, 4_000_000 / size as i64),
     };
-    let highest = M - (size as i64 - 1) * step;
+    let highest = M - (size as i64 - 1) * step - step / 2;
     let origin = match r.below(8) {
         0 => -M,
         1 => highest,

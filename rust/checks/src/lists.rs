@@ -1,5 +1,6 @@
 //! Random lists of clauses.
 
+use crate::grids;
 use crate::random::Random;
 use slow::draw::Grid;
 use slow::tape::Tape;
@@ -66,7 +67,7 @@ fn end(r: &mut Random) -> i32 {
 
 fn sample(r: &mut Random, grid: &Grid) -> i32 {
     let axis = r.index(3);
-    grid.sample(axis, r.below(grid.sizes[axis] as u64) as u32) as i32
+    grids::sample(grid, axis, r.below(grid.sizes[axis] as u64) as u32)
 }
 
 /// Half of the products are of a slot by itself.

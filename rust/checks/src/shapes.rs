@@ -1,5 +1,6 @@
 //! Random parts: minima and maxima, one inside another, of balls, boxes and half spaces.
 
+use crate::grids;
 use crate::lists::List;
 use crate::random::Random;
 use slow::draw::Grid;
@@ -66,7 +67,7 @@ impl Maker<'_> {
     /// The distance along an axis from some sample of the grid.
     fn along(&mut self, axis: usize) -> i32 {
         let index = self.r.below(self.grid.sizes[axis] as u64) as u32;
-        let sample = self.grid.sample(axis, index) as i32;
+        let sample = grids::sample(self.grid, axis, index);
         let (place, from) = (self.operation(X + axis as i32, &[]), self.constant(sample));
         self.operation(SUBTRACT, &[place, from])
     }

@@ -5,13 +5,14 @@ use crate::lend::filled;
 use crate::raw::{self, Answer};
 use crate::{Drawn, Grid, Refusal, Tape, Work, netpbm};
 
-/// One layer of a part: a bit for each sample of a flat grid, 1 for material. The grid's depth and z step don't matter.
+/// One layer of a part: a bit for each sample of a flat grid, 1 for material. A sample is in the middle of its cell;
+/// its z is the grid's own. The grid's depth and z step don't matter.
 ///
 /// ```
 /// use layers::{fixed, Bitmap, Clause, Grid, Tape};
 ///
 /// let tape = Tape::from_clauses(2, &[Clause::x(0), Clause::y(1), Clause::multiply(0, 0, 1)])?;
-/// let grid = Grid::flat(4, 2).origin(fixed(-1.5), fixed(-0.5), 0);
+/// let grid = Grid::flat(4, 2).origin(fixed(-2.0), fixed(-1.0), 0);
 /// let bitmap = Bitmap::draw(&tape, grid)?.picture;
 ///
 /// let row = |y| [0, 1, 2, 3].map(|x| bitmap.pixel(x, y));
@@ -110,7 +111,7 @@ mod tests {
 
     #[test]
     fn pixels_are_the_bits_of_their_row() {
-        let bitmap = Bitmap::draw(&band(), Grid::flat(19, 3).origin(fixed(-9.0), 0, 0)).unwrap().picture;
+        let bitmap = Bitmap::draw(&band(), Grid::flat(19, 3).origin(fixed(-9.5), 0, 0)).unwrap().picture;
         assert_eq!((bitmap.width(), bitmap.height()), (19, 3));
         assert_eq!(bitmap.rows().collect::<Vec<_>>(), [[0b0000_0111, 0b1111_1100, 0]; 3]);
         for y in 0..3 {
@@ -152,9 +153,17 @@ mod tests {
             Grid::flat(3, 2).step(0, 1, 1),
             Grid::flat(3, 2).origin(0, 0, i32::MIN),
             Grid::flat(3, 2).step(1, i32::MAX, 1).origin(0, 1, 0),
+            Grid::flat(1, 1).step(2, 1, 1).origin(i32::MAX, 0, 0),
         ] {
             assert_eq!(Bitmap::draw(&band(), grid), Err(Refusal::SampleOutOfRange), "{grid:?}");
         }
+    }
+
+    /// A step of 1 has no half, and z is taken as given whatever its step.
+    #[test]
+    fn samples_at_the_ends_pass() {
+        let grid = Grid::flat(1, 1).step(1, 1, i32::MAX).origin(i32::MAX, -i32::MAX, i32::MAX);
+        assert!(!Bitmap::draw(&band(), grid).unwrap().picture.pixel(0, 0));
     }
 
     #[test]

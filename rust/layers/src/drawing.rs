@@ -34,11 +34,11 @@ pub struct Drawn<T> {
 /// let mut work = Work::new();
 /// let mut material = Vec::new();
 /// for layer in 0..8 {
-///     let grid = Grid::flat(17, 17).origin(fixed(-8.0), fixed(-8.0), layer * ONE);
+///     let grid = Grid::flat(16, 16).origin(fixed(-8.0), fixed(-8.0), layer * ONE);
 ///     let bitmap = Bitmap::draw_with(&cone, grid, &mut work)?.picture;
-///     material.push((0..17).filter(|&x| bitmap.pixel(x, 8)).count());
+///     material.push((0..16).filter(|&x| bitmap.pixel(x, 8)).count());
 /// }
-/// assert_eq!(material, [15, 13, 11, 9, 7, 5, 3, 1]);
+/// assert_eq!(material, [16, 14, 12, 10, 8, 6, 4, 2]);
 /// # Ok::<(), layers::Refusal>(())
 /// ```
 #[derive(Clone)]

@@ -10,7 +10,7 @@ use crate::{Drawn, Grid, Refusal, Tape, Work, netpbm};
 /// ```
 /// use layers::{fixed, Clause, Grid, Heightmap, Tape};
 ///
-/// // z − 2 has material at the z indices 0 and 1
+/// // z − 2 has material at the z indices 0 and 1, of which the samples are 0.5 and 1.5
 /// let tape = Tape::from_clauses(2, &[Clause::z(0), Clause::constant(1, fixed(2.0)), Clause::subtract(0, 0, 1)])?;
 /// let drawn = Heightmap::draw(&tape, Grid::solid(1, 1, 4))?;
 /// assert_eq!(drawn.picture.height_at(0, 0), 2);

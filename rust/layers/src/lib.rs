@@ -4,7 +4,7 @@
 //! the formula is below 0 there. A [`Grid`] says where the samples are. A [`Bitmap`] is one layer of the part, a
 //! [`Heightmap`] the part seen from above. Values are whole numbers that count units of 1/65,536: [`fixed`] makes them.
 //!
-//! The part x − 2 on three columns and two rows, with samples at x = 0, 1 and 2:
+//! The part x − 2 on three columns and two rows, with samples in the middle of each cell, at x = 0.5, 1.5 and 2.5:
 //!
 //! ```
 //! use layers::{fixed, Bitmap, Clause, Grid, Tape};

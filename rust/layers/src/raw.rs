@@ -26,14 +26,15 @@ pub struct Listed {
     pub slots: u8,
 }
 
-/// Where the samples of a picture are: sample i on an axis is origin + i · step, in units of 1/65,536.
+/// Where the samples of a picture are: sample i on an axis is origin + i · step + step / 2, rounded down, in units of
+/// 1/65,536. So each pixel stands for the middle of its cell.
 ///
-/// A flat drawing reads neither `depth` nor `zstep`; its one z is `zorigin`.
+/// A flat drawing reads neither `depth` nor `zstep`; its one z is `zorigin` as it is given.
 ///
 /// ```
 /// use layers::{fixed, Grid};
 ///
-/// // 100 by 80 samples, a quarter apart, the first at (−12.5, −10), at the height 3
+/// // 100 by 80 cells of a quarter, from (−12.5, −10) to (12.5, 10), at the height 3
 /// let grid = Grid::flat(100, 80).step(fixed(0.25), fixed(0.25), 1).origin(fixed(-12.5), fixed(-10.0), fixed(3.0));
 /// assert_eq!((grid.width, grid.xorigin, grid.xstep, grid.zorigin), (100, -819_200, 16_384, 196_608));
 ///
@@ -49,17 +50,17 @@ pub struct Grid {
     pub height: u32,
     /// The number of samples along z.
     pub depth: u32,
-    /// x of the first column.
+    /// x where the first column begins.
     pub xorigin: i32,
-    /// y of the first row.
+    /// y where the first row begins.
     pub yorigin: i32,
-    /// z of the lowest sample, or of all samples of a flat drawing.
+    /// z where the lowest layer begins, or z of all samples of a flat drawing.
     pub zorigin: i32,
-    /// The distance between columns.
+    /// The width of a column.
     pub xstep: i32,
-    /// The distance between rows.
+    /// The height of a row.
     pub ystep: i32,
-    /// The distance between samples along z.
+    /// The thickness of a layer.
     pub zstep: i32,
 }
 

@@ -113,8 +113,8 @@ refusals! {
     10 SizeOutOfRange, "a size not 1 to 512",
         "width, height and, for a heightmap, depth must be 1 to {MAX_SIZE}: draw a larger grid in pieces";
     11 SampleOutOfRange, "a step below 1, or an origin, z or last sample outside −2,147,483,647 to 2,147,483,647",
-        "steps must be 1 or more, and the first and last sample of each axis {LEAST} to {GREATEST}: \
-         move the grid, or take smaller steps";
+        "steps must be 1 or more, and the origin and the last sample of each axis, half a step beyond where its cell \
+         begins, {LEAST} to {GREATEST}: move the grid, or take smaller steps";
     12 PictureLength, "picture buffer not of the exact length",
         "the picture buffer has the wrong length: a bitmap has width / 8 bytes, rounded up, for each row, \
          a heightmap one height for each pixel";

@@ -44,7 +44,7 @@ impl Design {
         compile(&formula, result, slots)
     }
 
-    /// The box, cut into n samples along each axis.
+    /// The box, cut into n cells along each axis.
     fn grid(&self, n: u32) -> Grid {
         let low = self.low.map(nearest);
         let sizes = [0, 1, 2].map(|axis| nearest(self.high[axis] - self.low[axis]));
@@ -52,20 +52,10 @@ impl Design {
     }
 }
 
-/// A grid of n samples along each axis, each in the middle of its share of the box.
+/// A grid of n cells along each axis of a box.
 fn cut(low: [i32; 3], sizes: [i32; 3], n: u32) -> Grid {
     let [xstep, ystep, zstep] = sizes.map(|size| size / n as i32);
-    Grid {
-        width: n,
-        height: n,
-        depth: n,
-        xorigin: low[0] + xstep / 2,
-        yorigin: low[1] + ystep / 2,
-        zorigin: low[2] + zstep / 2,
-        xstep,
-        ystep,
-        zstep,
-    }
+    Grid::solid(n, n, n).origin(low[0], low[1], low[2]).step(xstep, ystep, zstep)
 }
 
 impl Part {
@@ -79,12 +69,11 @@ impl Part {
             .map(|(kind, grid)| (format!("{}-{kind}.part", self.name), input(grid, &self.tape)))
     }
 
-    /// The solid grid's box, cut into n samples along each axis (n up to 512).
+    /// The solid grid's box, cut into n cells along each axis (n up to 512).
     pub fn solid_at(&self, n: u32) -> Grid {
         let g = self.solid;
-        let low = [g.xorigin - g.xstep / 2, g.yorigin - g.ystep / 2, g.zorigin - g.zstep / 2];
         let sizes = [g.xstep * g.width as i32, g.ystep * g.height as i32, g.zstep * g.depth as i32];
-        cut(low, sizes, n)
+        cut([g.xorigin, g.yorigin, g.zorigin], sizes, n)
     }
 }
 

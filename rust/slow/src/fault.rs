@@ -48,6 +48,16 @@ listed! {
         SquareOfTwoSlots,
         /// Two slots count as one where their ranges are equal.
         SquareByRanges,
+        /// A sample lies where the next cell begins.
+        WholeStepAdded,
+        /// Half of an odd step is rounded up.
+        HalfRoundedUp,
+        /// The one z of a flat picture is half a step higher.
+        HalfOnFlatZ,
+        /// Line 11 tests where the last cell begins.
+        LastWithoutHalf,
+        /// Line 11 tests the first sample in place of the origin.
+        OriginNotTested,
     }
 }
 

@@ -162,10 +162,22 @@ mod tests {
         (heights.iter().filter(|&&h| h == 1).count(), count)
     }
 
-    /// Figures of the request for tighter spheres.
+    /// Figures of the requests for tighter spheres and for samples in the middle of the cell.
     #[test]
     fn a_disc_of_products() {
-        assert_eq!(disc(), (25, 518));
-        assert_eq!(fault::with(Fault::NoSquare, disc), (25, 1_414));
+        assert_eq!(disc(), (32, 518));
+        assert_eq!(fault::with(Fault::NoSquare, disc), (32, 2_310));
+    }
+
+    /// The scope paper's drawn figures, an axis less 2: picture and count.
+    #[test]
+    fn three_clauses() {
+        let drawn = |axis: i32, sizes: [u32; 3], solid: bool| {
+            let list = [[axis, 0, 0, 0, 0], [0, 1, 0, 0, 131_072], [10, 0, 0, 1, 0]];
+            let tape = Tape::from_list(2, &list.concat()).expect("an accepted list");
+            walk(&tape, &Grid { sizes, origins: [0; 3], steps: [65_536; 3] }, solid)
+        };
+        assert_eq!(drawn(1, [3, 2, 1], false), (vec![1, 1, 0, 1, 1, 0], 24));
+        assert_eq!(drawn(3, [1, 1, 4], true), (vec![2], 18));
     }
 }

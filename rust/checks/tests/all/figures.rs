@@ -33,7 +33,7 @@ fn long_tape(clauses: u16) -> Vec<u8> {
     tape
 }
 
-/// The disc x·x + y·y − 9, each product of a slot by itself, on 24 by 24 samples from −12 on.
+/// The disc x·x + y·y − 9, each product of a slot by itself, on 24 by 24 cells from −12 on.
 fn disc() -> Drawing {
     let list = [
         [1, 0, 0, 0, 0],
@@ -104,7 +104,7 @@ fn three_clauses_on_a_column() {
     assert_eq!(run(&input), (file.to_vec(), b"18\n".to_vec(), Some(0)));
 }
 
-/// The request for tighter spheres: 518 clauses in place of 1,414.
+/// The requests for tighter spheres and for samples in the middle of the cell.
 #[test]
 fn a_disc_of_products() {
     let drawing = disc();
@@ -112,10 +112,38 @@ fn a_disc_of_products() {
     assert_eq!(raw::draw_flat(&drawing.tape, drawing.core_grid(), &mut full), done(7 * 24 * 24));
     assert_eq!(raw::tile_flat(&drawing.tape, drawing.core_grid(), &mut tiles, &mut work), done(518));
     assert_eq!(full, tiles);
-    assert_eq!(tiles.iter().map(|byte| byte.count_ones()).sum::<u32>(), 25);
+    assert_eq!(tiles.iter().map(|byte| byte.count_ones()).sum::<u32>(), 32);
 
     let (_, count, _) = run(&program::flat_input(&drawing.grid, &drawing.tape));
     assert_eq!(count, b"518\n");
+}
+
+/// The tape x − limit on one row of cells 3 wide, from 0 on: their middles are 1, 4 and 7.
+#[test]
+fn odd_steps() {
+    for (limit, picture) in [(1, 0b0000_0000), (2, 0b1000_0000), (4, 0b1000_0000), (5, 0b1100_0000), (8, 0b1110_0000)] {
+        let list = [[1, 0, 0, 0, 0], [0, 1, 0, 0, limit], [10, 0, 0, 1, 0]];
+        let tape = Tape::from_list(2, &list.concat()).expect("an accepted list").to_bytes();
+        let drawing = Drawing::new(tape, Grid { steps: [3; 3], ..grid([3, 1, 1]) });
+        let (mut full, mut tiles, mut work) = ([0xFF; 1], [0xFF; 1], vec![0xFF; raw::WORK]);
+        assert_eq!(raw::draw_flat(&drawing.tape, drawing.core_grid(), &mut full), done(9));
+        assert_eq!(raw::tile_flat(&drawing.tape, drawing.core_grid(), &mut tiles, &mut work).number, 0);
+        assert_eq!((full, tiles), ([picture], [picture]), "below {limit}");
+    }
+}
+
+/// The tape z − limit has material where z, as given, is below the limit.
+#[test]
+fn a_flat_z_is_taken_as_given() {
+    for (limit, byte) in [(100, 0x00), (101, 0x80)] {
+        let list = [[3, 0, 0, 0, 0], [0, 1, 0, 0, limit], [10, 0, 0, 1, 0]];
+        let tape = Tape::from_list(2, &list.concat()).expect("an accepted list").to_bytes();
+        let drawing = Drawing::new(tape, Grid { origins: [0, 0, 100], ..grid([1, 1, 1]) });
+        let (mut full, mut tiles, mut work) = ([0xFF; 1], [0xFF; 1], vec![0xFF; raw::WORK]);
+        assert_eq!(raw::draw_flat(&drawing.tape, drawing.core_grid(), &mut full), done(3));
+        assert_eq!(raw::tile_flat(&drawing.tape, drawing.core_grid(), &mut tiles, &mut work), done(3));
+        assert_eq!((full, tiles), ([byte], [byte]), "below {limit}");
+    }
 }
 
 #[test]

@@ -180,19 +180,39 @@ fn depth_and_its_step() {
     });
 }
 
-/// The last sample may be at M and the first at −M, and neither may be one further.
+/// The last sample may be at M and the origin at −M, and neither may be one further.
 #[test]
 fn samples_at_the_ends() {
     let mut noise = Random::seeded("samples_at_the_ends", 0x5EED_0022);
     let m = i32::MAX;
+    let ends = [
+        (1, m, 1, 0),
+        (1, m, 2, 11),
+        (1, m - 1, 2, 0),
+        (1, m - 1, 3, 0),
+        (1, m - 1, 4, 11),
+        (1, -m, m, 0),
+        (1, i32::MIN, 2, 11),
+        (2, -m, m, 0),
+        (2, 0, m, 11),
+        (3, -m, m, 11),
+        (3, -m, 1_717_986_917, 0),
+        (3, -m, 1_717_986_918, 11),
+        (3, i32::MIN, 10, 11),
+        (3, -m, 1, 0),
+        (3, m - 25, 10, 0),
+        (3, m - 24, 10, 11),
+        (3, m - 22, 9, 0),
+        (3, m - 21, 9, 11),
+        (3, m - 2, 1, 0),
+        (3, m, 1, 11),
+    ];
     for axis in 0..3 {
-        for (origin, step, number) in
-            [(-m, m, 0), (i32::MIN, m, 11), (-m, 1, 0), (m - 20, 10, 0), (m - 19, 10, 11), (m, 1, 11)]
-        {
-            let mut drawing = good_drawing();
-            drawing.grid.sizes = [3; 3];
-            drawing = Drawing::new(drawing.tape, drawing.grid);
-            (drawing.grid.origins[axis], drawing.grid.steps[axis]) = (origin, step);
+        for (size, origin, step, number) in ends {
+            let Drawing { tape, mut grid, .. } = good_drawing();
+            grid.sizes = [3; 3];
+            (grid.sizes[axis], grid.origins[axis], grid.steps[axis]) = (size, origin, step);
+            let drawing = Drawing::new(tape, grid);
             let numbers = drawing.compare(&mut noise).unwrap_or_else(|e| panic!("{e}")).map(|a| a.number);
             // a flat drawing has one z, which is a value or not
             let flat = if axis == 2 && origin > i32::MIN { 0 } else { number };

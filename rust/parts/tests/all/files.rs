@@ -66,8 +66,8 @@ fn the_core_sees_the_formula() {
         let drawn = picture::flat(&part).picture;
         for index in (0..512 * 512).step_by(101) {
             let (row, column) = (index / 512, index % 512);
-            let x = part.flat.xorigin + column as i32 * part.flat.xstep;
-            let y = part.flat.yorigin + row as i32 * part.flat.ystep;
+            let x = part.flat.xorigin + column as i32 * part.flat.xstep + part.flat.xstep / 2;
+            let y = part.flat.yorigin + row as i32 * part.flat.ystep + part.flat.ystep / 2;
             let value = value_at(&formula, result, [x, y, part.flat.zorigin].map(i128::from));
             assert_eq!(drawn.pixel(column, row), value < 0, "{} at {column}, {row}", part.name);
         }
@@ -89,7 +89,7 @@ fn boxes_hold_their_parts() {
     }
 }
 
-/// The finer grid has its samples in the same box.
+/// The finer grid has its cells in the same box.
 #[test]
 fn finer_grids_cover_the_same_box() {
     for part in all() {
@@ -97,6 +97,6 @@ fn finer_grids_cover_the_same_box() {
         assert_eq!(part.solid_at(128), coarse);
         assert_eq!((fine.width, fine.height, fine.depth), (512, 512, 512));
         assert_eq!([4 * fine.xstep, 4 * fine.ystep, 4 * fine.zstep], [coarse.xstep, coarse.ystep, coarse.zstep]);
-        assert_eq!(fine.xorigin - fine.xstep / 2, coarse.xorigin - coarse.xstep / 2);
+        assert_eq!([fine.xorigin, fine.yorigin, fine.zorigin], [coarse.xorigin, coarse.yorigin, coarse.zorigin]);
     }
 }

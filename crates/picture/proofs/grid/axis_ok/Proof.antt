@@ -1,4 +1,4 @@
--- An axis by its tests: the first sample, the step, the last sample.
+-- An axis by its tests: the origin, the step, the last sample.
 use mathlib.Core.Path.{_≡_, ap, _∙_}
 use mathlib.Core.Bool.{Bool, true, false}
 use lib.IntN.{pos}
@@ -8,7 +8,7 @@ use native.Mathlib.Omega.{arith}
 use mir.Syntax.{w32, w64}
 use Rattle.rules.specs.Values.{reaches}
 use Rattle.rules.proofs.Words.{read, read-wide, read-fits, back, tested}
-use Rattle.picture.proofs.GridWords.{at-read}
+use Rattle.picture.proofs.GridWords.{at-read, rising-fits}
 use Rattle.picture.proofs.Answers.{stops, goes-on, refused, passed}
 use Rattle.picture.proofs.GridTests.{no-step, step, step-value}
 use borrow.Author.Needs.{needs}
@@ -22,11 +22,11 @@ is-value-requires : tie.Need-is-value-requires
 is-value-requires c κs = search needs
 
 -- What the two tests say of the numbers themselves.
-first-tested : (c : tie.After-is-value) → c .is-value .result ≡ reaches (c .before .args .origin)
-first-tested c = c .is-value .ensures ∙ ap reaches (read-wide (c .before .fits .origin))
+origin-tested : (c : tie.After-is-value) → c .is-value .result ≡ reaches (c .before .args .origin)
+origin-tested c = c .is-value .ensures ∙ ap reaches (read-wide (c .before .fits .origin))
 
-first-ok : (c : tie.Else1) → reaches (c .before .before .args .origin) ≡ true
-first-ok c = passed _ (first-tested (c .before)) (c .if1 .left)
+origin-ok : (c : tie.Else1) → reaches (c .before .before .args .origin) ≡ true
+origin-ok c = passed _ (origin-tested (c .before)) (c .if1 .left)
 
 step-tested : (c : tie.Else1) (t : Bool) → ltZ (read w32 (c .before .before .args .step)) (pos 1) ≡ t
     → ltZ (c .before .before .args .step) (pos 1) ≡ t
@@ -34,18 +34,24 @@ step-tested c t e = tested {w = w32} {u = c .before .before .args .step} {v = po
     (omega arith) e
 
 returns : tie.Need-returns
-returns c = stops _ (refused _ (first-tested (c .before)) (c .if1 .taken))
+returns c = stops _ (refused _ (origin-tested (c .before)) (c .if1 .taken))
 
 returns-2 : tie.Need-returns-2
 returns-2 c =
     let s = c .before .before .before .args .step in
-    goes-on (first-ok (c .before)) (stops _ (no-step s (step-tested (c .before) true (c .if2 .taken))))
+    goes-on (origin-ok (c .before)) (stops _ (no-step s (step-tested (c .before) true (c .if2 .taken))))
 
 sub-along : tie.Need-sub-along
 sub-along c = search needs
 
 along-requires : tie.Need-along-requires
-along-requires c κs = search needs
+along-requires c κs =
+    let first = c .before in
+    let a = first .before .before .args in
+    let f = first .before .before .fits in
+    rw (at-read (a .origin) (a .step) (a .n - 1) (f .origin) (f .step))
+    (rising-fits (a .origin) (a .step) (a .n - 1) (f .origin) (f .step) (omega (arith, f .n))
+    (step-tested first false (c .if2 .left)))
 
 is-value-requires-2 : tie.Need-is-value-requires-2
 is-value-requires-2 c κs = search needs
@@ -59,7 +65,7 @@ returns-3 c =
     let r = c .before .along in
     let last = back w64 (r .result) (r .ok)
     (r .ensures ∙ at-read (a .origin) (a .step) (a .n - 1) (f .origin) (f .step)) in
-    goes-on (first-ok first)
+    goes-on (origin-ok first)
     (goes-on (step (a .step) l)
     (goes-on (step-value (a .step) (f .step) l) (c .is-value2 .ensures ∙ ap reaches last)))
 

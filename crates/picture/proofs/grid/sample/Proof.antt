@@ -1,16 +1,18 @@
 -- A sample that is a value, in 32 bits.
 use mathlib.Core.Path.{_≡_, ap, _∙_}
 use mir.Syntax.{w32, w64}
-use mir.Facts.{toZ-ofZ}
+use mir.Facts.{toZ-ofZ, sfits-widen}
 use Rattle.rules.specs.Drawings.{at}
 use Rattle.rules.proofs.Words.{read, back}
 use Rattle.picture.proofs.GridWords.{at-read, value-fits}
-use borrow.Author.Needs.{needs}
 use Rattle.picture.proofs.grid.sample.Statement.{statement}
 use Rattle.picture.proofs.grid.sample.Tie as tie
 
 along-requires : tie.Need-along-requires
-along-requires c κs = search needs
+along-requires c κs =
+    let a = c .args in
+    let f = c .fits in
+    rw (at-read (a .origin) (a .step) (a .i) (f .origin) (f .step)) (sfits-widen tt (value-fits _ (c .pre)))
 
 -- What the wide sample is, as it is read.
 sampled : (c : tie.After-along)
