@@ -1,10 +1,10 @@
--- The figures that the scope paper marks to be proved (★), and some of its worded rules at numbers, as rows of one list:
--- what a definition gives, and what the paper says.
+-- The figures that the scope paper marks to be proved (★), some of its worded rules at numbers and those of the later
+-- requests, as rows of one list: what a definition gives, and what the paper says.
 use mathlib.Core.Path.{_≡_, refl}
 use mathlib.Core.List.{List, [], _∷_, _++_, map}
 use lib.IntN.{ℤ, pos, negℤ}
 use Prim.Native.Nat.{ℕ}
-use Rattle.rules.specs.Values.{smaller, larger, sum, difference, product, square, rootFrom, rootOf, Clause, Range, range, Box, holdsZero, absoluteR, squareR, rootR, productR, sumR, differenceR, negR, smallerR, largerR, unaryRange, binaryRange, rangeOf, sideBelow, sideAbove, choiceOf}
+use Rattle.rules.specs.Values.{smaller, larger, sum, difference, product, square, rootFrom, rootOf, quotient, Clause, Range, range, Box, holdsZero, absoluteR, squareR, rootR, productR, quotientR, sumR, differenceR, negR, smallerR, largerR, unaryRange, binaryRange, rangeOf, sideBelow, sideAbove, choiceOf}
 use Rattle.rules.specs.Tapes.{Tape, noRange, choicesFrom, reads, isIn, without, onClause, shortFrom, lastOut, shortened, listOf}
 
 -- A row of numbers: a range is its two ends, a tape is its list.
@@ -96,9 +96,30 @@ worded =
     (clause 1 0 0 0 (pos 0) ∷ (clause 0 1 0 0 (pos 0) ∷ (clause 9 1 1 0 (pos 0) ∷ [])))
     ∷ [])))))))))))))
 
+-- Quotients: rounded down whatever the signs, by 0, clamped; over ranges, with a divisor on either side of 0, up to it
+-- and from it.
+abbrev pub quotients : List Row
+quotients =
+    number (quotient (minus 1) (pos 196608)) (minus 1)
+    ∷ (number (quotient (pos 1) (minus 196608)) (minus 1)
+    ∷ (number (quotient (minus 1) (minus 196608)) (pos 0)
+    ∷ (number (quotient (pos 655360) (pos 196608)) (pos 218453)
+    ∷ (number (quotient (minus 655360) (pos 196608)) (minus 218454)
+    ∷ (number (quotient (pos 5) (pos 0)) (pos 2147483647)
+    ∷ (number (quotient (pos 0) (pos 0)) (pos 0)
+    ∷ (number (quotient (minus 5) (pos 0)) (minus 2147483647)
+    ∷ (number (quotient (pos 2147483647) (minus 1)) (minus 2147483647)
+    ∷ (number (quotient (pos 65536) (pos 3)) (pos 1431655765)
+    ∷ (interval (quotientR (range (minus 131072) (pos 196608)) (range (minus 131072) (minus 65536)))
+    (minus 196608) (pos 131072)
+    ∷ (interval (quotientR (range (minus 3) (pos 5)) (range (pos 2) (pos 7))) (minus 98304) (pos 163840)
+    ∷ (interval (quotientR (range (minus 3) (pos 5)) (range (pos 0) (pos 5))) (minus 2147483647) (pos 2147483647)
+    ∷ (interval (quotientR (range (minus 3) (pos 5)) (range (minus 5) (pos 0))) (minus 2147483647) (pos 2147483647)
+    ∷ [])))))))))))))
+
 abbrev pub rows : List Row
-rows = starred ++ worded
+rows = starred ++ (worded ++ quotients)
 
 pub figures : map (λ r. r .given) rows ≡ map (λ r. r .said) rows
-unfolding smaller larger sum difference product square rootFrom rootOf holdsZero absoluteR squareR rootR productR sumR differenceR negR smallerR largerR unaryRange binaryRange rangeOf sideBelow sideAbove choiceOf choicesFrom reads isIn without onClause shortFrom lastOut shortened listOf
+unfolding smaller larger sum difference product square rootFrom rootOf quotient holdsZero absoluteR squareR rootR productR quotientR sumR differenceR negR smallerR largerR unaryRange binaryRange rangeOf sideBelow sideAbove choiceOf choicesFrom reads isIn without onClause shortFrom lastOut shortened listOf
 figures = refl

@@ -5,6 +5,7 @@ pub mod Words
 pub mod Order
 pub mod Root
 pub mod Monotone
+pub mod Quotient
 pub mod Arithmetic
 pub mod EndValues
 pub mod Reading
