@@ -124,7 +124,7 @@ above-zero : (low high : ℤ) → ltZ (pos 0) low ≡ true → holdsZero (range 
 unfolding holdsZero
 above-zero low high e = rw e
 
-negative : (z : ℤ) → ltZ z (pos 0) ≡ isNeg z
+pub negative : (z : ℤ) → ltZ z (pos 0) ≡ isNeg z
 negative (pos n) = le-ltb n 0 (omega arith)
 negative (negsuc n) = refl
 

@@ -1,4 +1,5 @@
 -- What the proofs of the functions share.
 pub mod Words
 pub mod Ends
+pub mod Division
 pub mod Spans

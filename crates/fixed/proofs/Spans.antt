@@ -1,15 +1,17 @@
 -- Both ends of a range at once.
-use mathlib.Core.Path.{_≡_, _∙_}
-use lib.IntN.{ℤ}
-use lib.Signed.{mag}
+use mathlib.Core.Path.{_≡_, ap, _∙_}
+use mathlib.Core.Bool.{_&&_, not}
+use lib.IntN.{ℤ, pos}
+use lib.Signed.{ltZ, mag}
 use Prim.Native.Nat.{ℕ, _<_, _^_}
 use mir.Syntax.{w32}
 use mir.Val.{SFits}
 use mir.Facts.{toZ-ofZ}
-use Rattle.rules.specs.Values.{pick, below, range, sideBelow}
+use Rattle.rules.specs.Values.{pick, below, range, holdsZero, sideBelow}
 use Rattle.fixed.specs.Shapes.{rangeIn}
 use Rattle.fixed.specs.declared.span.Span.{Span}
 use Rattle.fixed.proofs.Words.{read, both, back-one, back-two}
+use Rattle.fixed.proofs.Ends.{negative}
 
 -- What a span's type says of its ends, and where the ends stand in what is told of a span.
 pub record Fit (s : Span) : Type 0 where
@@ -31,6 +33,14 @@ module _ (l h : ℤ) (fl : mag l < 2 ^ 31) (fh : mag h < 2 ^ 31) where
       → range (read w32 l) (read w32 h) ≡ range (op a b) (op c d)
   ends-of-two op fa fb fc fd el eh =
       both range (back-two w32 op l fl el (toZ-ofZ fa) (toZ-ofZ fb)) (back-two w32 op h fh eh (toZ-ofZ fc) (toZ-ofZ fd))
+
+-- Whether a span holds 0, by tests of words.
+pub zero-held : (s : Span) → Fit s
+    → (not (ltZ (pos 0) (read w32 (s .low))) && not (ltZ (read w32 (s .high)) (pos 0))) ≡ holdsZero (rangeIn s)
+unfolding holdsZero
+zero-held s f =
+    both (λ t u. not t && not u) (ap (λ z. ltZ (pos 0) z) (toZ-ofZ (f .low)))
+    (ap (λ z. ltZ z (pos 0)) (toZ-ofZ (f .high)) ∙ negative (s .high))
 
 -- Which of two spans lies below the other, by tests of words.
 pub side-of : (a b : Span) (r : ℕ) → Fit a → Fit b

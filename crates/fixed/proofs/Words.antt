@@ -60,7 +60,7 @@ mag-neg : (n : ℕ) → mag (negℤ (pos n)) ≤ n
 mag-neg zero = omega arith
 mag-neg (suc n) = omega arith
 
-natAbs-fits : {z : ℤ} → SFits w32 z → natAbs z ≤ 2147483648
+pub natAbs-fits : {z : ℤ} → SFits w32 z → natAbs z ≤ 2147483648
 natAbs-fits {z = pos n} f = omega arith
 natAbs-fits {z = negsuc n} f = omega arith
 
@@ -70,12 +70,12 @@ mag-sum (pos a) (negsuc b) = mag-sub a (suc b)
 mag-sum (negsuc a) (pos b) = omega (arith, mag-sub b (suc a))
 mag-sum (negsuc a) (negsuc b) = omega arith
 
-natAbs-neg : (z : ℤ) → natAbs (negℤ z) ≡ natAbs z
+pub natAbs-neg : (z : ℤ) → natAbs (negℤ z) ≡ natAbs z
 natAbs-neg (pos zero) = refl
 natAbs-neg (pos (suc n)) = refl
 natAbs-neg (negsuc n) = refl
 
-mag-product : (a b : ℤ) → mag (a *ℤ b) ≤ natAbs a * natAbs b
+pub mag-product : (a b : ℤ) → mag (a *ℤ b) ≤ natAbs a * natAbs b
 mag-product (pos a) (pos b) = omega arith
 mag-product (pos a) (negsuc b) = mag-neg (a * suc b)
 mag-product (negsuc a) (pos b) = mag-neg (suc a * b)
@@ -93,21 +93,27 @@ module _ {a b : ℤ} (fa : SFits w32 a) (fb : SFits w32 b) where
       let h : natAbs a * natAbs b ≤ 2147483648 * 2147483648 = mul-le-mul (natAbs-fits fa) (natAbs-fits fb) in
       omega (arith, mag-product a b)
 
--- The negative of a value.
-negated-fits : (z : ℤ) → IsValue z → SFits w32 (negℤ z)
+-- The negative of a value, and of a number of 32 bits.
+pub negated-fits : (z : ℤ) → IsValue z → SFits w32 (negℤ z)
 negated-fits (pos zero) h = omega arith
 negated-fits (pos (suc n)) h = omega arith
 negated-fits (negsuc n) h = omega arith
 
-module _ {a : ℤ} (f : SFits w32 a) (h : IsValue a) where
-  zero-less : pos 0 -ℤ read w32 a ≡ negℤ a
-  zero-less = +ℤ-idl (negℤ (read w32 a)) ∙ ap negℤ (toZ-ofZ f)
+pub negated-wide : (z : ℤ) → SFits w32 z → SFits w64 (negℤ z)
+negated-wide (pos zero) h = omega arith
+negated-wide (pos (suc n)) h = omega arith
+negated-wide (negsuc n) h = omega arith
 
-  pub negate-fits : SFits w32 (pos 0 -ℤ read w32 a)
-  negate-fits = rw zero-less (negated-fits a h)
+-- It is what y, which is a, leaves of 0.
+module _ {w : Width} {y a : ℤ} (e : y ≡ a) (f : SFits w (negℤ a)) where
+  zero-less : pos 0 -ℤ y ≡ negℤ a
+  zero-less = +ℤ-idl (negℤ y) ∙ ap negℤ e
 
-  pub negate-is : read w32 (pos 0 -ℤ read w32 a) ≡ negℤ a
-  negate-is = ap (read w32) zero-less ∙ toZ-ofZ (negated-fits a h)
+  pub negate-fits : SFits w (pos 0 -ℤ y)
+  negate-fits = rw zero-less f
+
+  pub negate-is : read w (pos 0 -ℤ y) ≡ negℤ a
+  negate-is = ap (read w) zero-less ∙ toZ-ofZ f
 
 -- The size of a value, by a test of its sign.
 sized : (a : ℤ) (t : Bool) → ltZ a (pos 0) ≡ t → pick t (negℤ a) a ≡ absolute a

@@ -2,9 +2,9 @@
 use crate::value;
 ghost use mathlib.Core.Path.{_≡_};
 ghost use lib.IntN.{pos};
-ghost use Rattle.rules.specs.Values.{pick, range, smaller, larger, holdsZero, sumR, differenceR, productR, negR};
-ghost use Rattle.rules.specs.Values.{absoluteR, squareR, rootR, smallerR, largerR};
-ghost use Rattle.fixed.specs.Shapes.{rangeIn, ValueEnds};
+ghost use Rattle.rules.specs.Values.{pick, range, smaller, larger, holdsZero, sumR, differenceR, productR, quotientR};
+ghost use Rattle.rules.specs.Values.{negR, absoluteR, squareR, rootR, smallerR, largerR};
+ghost use Rattle.fixed.specs.Shapes.{rangeIn, overEnds, ValueEnds};
 
 // A range of values, by its ends.
 pub struct Span {
@@ -54,6 +54,42 @@ pub fn multiply_spans(a: Span, b: Span) -> Span
     Span {
         low: value::round(least(p, q, s, t)),
         high: value::round(greatest(p, q, s, t)),
+    }
+}
+
+fn holds_zero(r: Span) -> bool
+    ensures { λ t. ⌜ t ≡ holdsZero (rangeIn r) ⌝ }
+{
+    !(0 < r.low) & !(r.high < 0)
+}
+
+// The lesser and the greater of a's quotients by both ends.
+fn over_ends(a: i32, b: Span) -> Span
+    ensures { λ r. ⌜ rangeIn r ≡ overEnds a (rangeIn b) ⌝ }
+{
+    let p = value::divide(a, b.low);
+    let q = value::divide(a, b.high);
+    Span {
+        low: value::minimum(p, q),
+        high: value::maximum(p, q),
+    }
+}
+
+// All four quotients of ends: the signs tell which are the least and the greatest only of ends known to be in order.
+pub fn divide_spans(a: Span, b: Span) -> Span
+    ensures { λ r. ⌜ rangeIn r ≡ quotientR (rangeIn a) (rangeIn b) ⌝ }
+{
+    if holds_zero(b) {
+        return Span {
+            low: -2147483647,
+            high: 2147483647,
+        };
+    }
+    let l = over_ends(a.low, b);
+    let h = over_ends(a.high, b);
+    Span {
+        low: value::minimum(l.low, h.low),
+        high: value::maximum(l.high, h.high),
     }
 }
 

@@ -6,6 +6,7 @@ use mathlib.Core.List.{List, [], _∷_, _++_, map}
 use lib.IntN.{ℤ, pos, negℤ}
 use Prim.Native.Nat.{ℕ}
 use Rattle.rules.specs.Values.{smaller, larger, sum, difference, product, square, rootFrom, rootOf, Clause, Range}
+use Rattle.rules.specs.Values.{quotient, quotientR}
 use Rattle.rules.specs.Values.{range, Box, holdsZero, absoluteR, squareR, rootR, productR, sumR, differenceR}
 use Rattle.rules.specs.Values.{negR, smallerR, largerR, unaryRange, binaryRange, rangeOf, sideBelow, sideAbove}
 use Rattle.rules.specs.Values.{multipliedR, choiceOf}
@@ -157,11 +158,33 @@ oneSlot =
     ∷ (interval (rangeOver (inOneSlot 9) (onX (minus 196608) (pos 327680))) (minus 393216) (pos 655360)
     ∷ [])))
 
+-- Quotients: rounded down whatever the signs, by 0, clamped; over ranges, with a divisor on either side of 0, up to it
+-- and from it.
+abbrev pub quotients : List Row
+quotients =
+    number (quotient (minus 1) (pos 196608)) (minus 1)
+    ∷ (number (quotient (pos 1) (minus 196608)) (minus 1)
+    ∷ (number (quotient (minus 1) (minus 196608)) (pos 0)
+    ∷ (number (quotient (pos 655360) (pos 196608)) (pos 218453)
+    ∷ (number (quotient (minus 655360) (pos 196608)) (minus 218454)
+    ∷ (number (quotient (pos 5) (pos 0)) (pos 2147483647)
+    ∷ (number (quotient (pos 0) (pos 0)) (pos 0)
+    ∷ (number (quotient (minus 5) (pos 0)) (minus 2147483647)
+    ∷ (number (quotient (pos 2147483647) (minus 1)) (minus 2147483647)
+    ∷ (number (quotient (pos 65536) (pos 3)) (pos 1431655765)
+    ∷ (interval (quotientR (range (minus 131072) (pos 196608)) (range (minus 131072) (minus 65536)))
+    (minus 196608) (pos 131072)
+    ∷ (interval (quotientR (range (minus 3) (pos 5)) (range (pos 2) (pos 7))) (minus 98304) (pos 163840)
+    ∷ (interval (quotientR (range (minus 3) (pos 5)) (range (pos 0) (pos 5))) (minus 2147483647) (pos 2147483647)
+    ∷ (interval (quotientR (range (minus 3) (pos 5)) (range (minus 5) (pos 0))) (minus 2147483647) (pos 2147483647)
+    ∷ [])))))))))))))
+
 abbrev pub rows : List Row
-rows = starred ++ worded ++ oneSlot ++ middles
+rows = starred ++ worded ++ oneSlot ++ middles ++ quotients
 
 pub figures : map (λ r. r .given) rows ≡ map (λ r. r .said) rows
-unfolding smaller larger sum difference product square rootFrom rootOf holdsZero absoluteR squareR rootR productR sumR
+unfolding smaller larger sum difference product square rootFrom rootOf quotient quotientR holdsZero absoluteR squareR
+    rootR productR sumR
     differenceR negR smallerR largerR unaryRange multipliedR binaryRange rangeOf rangeFrom rangeOver sideBelow sideAbove
     choiceOf choicesFrom reads isIn without onClause shortFrom lastOut shortened listOf sampleAt
     gridFault

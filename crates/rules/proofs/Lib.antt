@@ -6,6 +6,7 @@ pub mod Words
 pub mod Order
 pub mod Root
 pub mod Monotone
+pub mod Quotient
 pub mod Arithmetic
 pub mod EndValues
 pub mod Reading

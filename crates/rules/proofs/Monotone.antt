@@ -7,10 +7,10 @@ use native.Mathlib.Nat.{mul-le-mul-right}
 use native.Mathlib.Omega.{arith}
 use Rattle.rules.specs.Values.{pick, IsValue, below, smaller, larger, clamped, floored, sum, difference, product}
 use Rattle.rules.specs.Values.{square, absolute}
+use Rattle.rules.specs.Values.{Range, ofEnds}
 use Rattle.rules.proofs.Tests.{of-pick}
-use Rattle.rules.proofs.Order.{up, down, AtMost, at-most-refl, at-most-trans, at-most-antisym, below-at-most}
-use Rattle.rules.proofs.Order.{not-below}
-use Rattle.rules.proofs.Order.{sum-rises, neg-falls, neg-up, neg-down}
+use Rattle.rules.proofs.Order.{up, down, AtMost, Holds, at-most-refl, at-most-trans, at-most-antisym}
+use Rattle.rules.proofs.Order.{below-at-most, not-below, sum-rises, neg-falls, neg-up, neg-down}
 
 -- Clamping and rounding down.
 pub clamped-value : (z : ℤ) → IsValue (clamped z)
@@ -121,15 +121,15 @@ unfolding difference
 difference-rises h k = clamped-rises _ _ (sum-rises h (neg-falls k))
 
 -- Products: a natural factor keeps the order, a negative one turns it round.
-times-up : (z : ℤ) (c : ℕ) → up (z *ℤ pos c) ≡ up z * c
+pub times-up : (z : ℤ) (c : ℕ) → up (z *ℤ pos c) ≡ up z * c
 times-up (pos a) c = refl
 times-up (negsuc a) c = omega (arith, neg-up (pos (suc a * c)))
 
-times-down : (z : ℤ) (c : ℕ) → down (z *ℤ pos c) ≡ down z * c
+pub times-down : (z : ℤ) (c : ℕ) → down (z *ℤ pos c) ≡ down z * c
 times-down (pos a) c = omega arith
 times-down (negsuc a) c = omega (arith, neg-down (pos (suc a * c)))
 
-times-rises : (c : ℕ) (a b : ℤ) → AtMost a b → AtMost (a *ℤ pos c) (b *ℤ pos c)
+pub times-rises : (c : ℕ) (a b : ℤ) → AtMost a b → AtMost (a *ℤ pos c) (b *ℤ pos c)
 times-rises c a b h =
     record {
       le = omega (arith, times-up a c, times-up b c, times-down a c, times-down b c, mul-le-mul-right c (h .le));
@@ -159,33 +159,46 @@ pub record Between (x y z : ℤ) : Type 0 where
   pub low : AtMost (smaller x y) z
   pub high : AtMost z (larger x y)
 
-rising : (x y z : ℤ) → AtMost x z → AtMost z y → Between x y z
+pub rising : (x y z : ℤ) → AtMost x z → AtMost z y → Between x y z
 rising x y z h k =
     record { low = at-most-trans (smaller-left x y) h; high = at-most-trans k (larger-right x y) }
 
-falling : (x y z : ℤ) → AtMost y z → AtMost z x → Between x y z
+pub falling : (x y z : ℤ) → AtMost y z → AtMost z x → Between x y z
 falling x y z h k =
     record { low = at-most-trans (smaller-right x y) h; high = at-most-trans k (larger-left x y) }
+
+pub turned : {x y z : ℤ} → Between x y z → Between y x z
+turned {x} {y} b =
+    let l = of-smaller (λ w. AtMost (smaller y x) w) x y (smaller-right y x) (smaller-left y x) in
+    let h = of-larger (λ w. AtMost w (larger y x)) x y (larger-right y x) (larger-left y x) in
+    record { low = at-most-trans l (b .low); high = at-most-trans (b .high) h }
 
 pub product-between : (l h a d : ℤ) → AtMost l a → AtMost a h → Between (product l d) (product h d) (product a d)
 product-between l h a (pos c) u v = rising _ _ _ (product-rises c u) (product-rises c v)
 product-between l h a (negsuc c) u v = falling _ _ _ (product-falls c v) (product-falls c u)
 
-between-right : (m k d a : ℤ) → AtMost m d → AtMost d k → Between (product a m) (product a k) (product a d)
-between-right m k d a u v = rw (product-comm a m, product-comm a k, product-comm a d) (product-between m k d a u v)
+pub product-between-right : (m k d a : ℤ) → AtMost m d → AtMost d k → Between (product a m) (product a k) (product a d)
+product-between-right m k d a u v =
+    rw (product-comm a m, product-comm a k, product-comm a d) (product-between m k d a u v)
 
--- A product lies between the least and the greatest of the four products of ends.
-pub product-corners : (l h m k a d : ℤ) → AtMost l a → AtMost a h → AtMost m d → AtMost d k
-    → AtMost (smaller (smaller (product l m) (product l k)) (smaller (product h m) (product h k))) (product a d)
-    × AtMost (product a d) (larger (larger (product l m) (product l k)) (larger (product h m) (product h k)))
-product-corners l h m k a d u v w x =
-    let b = product-between l h a d u v in
-    let p = between-right m k d l w x in
-    let q = between-right m k d h w x in (
-      at-most-trans (smaller-rises (p .low) (q .low)) (b .low),
-      at-most-trans (b .high)
-          (larger-rises (p .high) (q .high)),
-    )
+-- What is between two results at the right's d, each of them between those at the right's ends, lies in the range that
+-- the four results of ends make.
+pub four-hold : (op : ℤ → ℤ → ℤ) → ((a d : ℤ) → IsValue (op a d)) → (r q : Range) (a d : ℤ)
+    → Between (op (r .low) d) (op (r .high) d) (op a d)
+    → Between (op (r .low) (q .low)) (op (r .low) (q .high)) (op (r .low) d)
+    → Between (op (r .high) (q .low)) (op (r .high) (q .high)) (op (r .high) d)
+    → Holds (ofEnds op r q) (op a d)
+four-hold op v r q a d b l h =
+    let ll = v (r .low) (q .low) in
+    let lh = v (r .low) (q .high) in
+    let hl = v (r .high) (q .low) in
+    let hh = v (r .high) (q .high) in
+    record {
+      low-value = of-smaller IsValue _ _ (of-smaller IsValue _ _ ll lh) (of-smaller IsValue _ _ hl hh);
+      high-value = of-larger IsValue _ _ (of-larger IsValue _ _ ll lh) (of-larger IsValue _ _ hl hh);
+      above = at-most-trans (smaller-rises (l .low) (h .low)) (b .low);
+      under = at-most-trans (b .high) (larger-rises (l .high) (h .high));
+    }
 
 -- Squares.
 pub square-value : (z : ℤ) → IsValue (square z)
