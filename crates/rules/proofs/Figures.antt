@@ -93,7 +93,8 @@ middles =
     ∷ (number (at (minus 2147483647) (pos 2147483647) 1) (pos 1073741823)
     ∷ (refused (minus 2147483647) (pos 2147483647) 2 0
     ∷ (refused (minus 2147483647) (pos 2147483647) 3 11
-    ∷ []))))))))))
+    ∷ (refused (minus 2147483648) (pos 2) 1 11
+    ∷ [])))))))))))
 
 -- The marked figures, in the paper's order.
 abbrev pub starred : List Row
@@ -184,8 +185,7 @@ rows = starred ++ worded ++ oneSlot ++ middles ++ quotients
 
 pub figures : map (λ r. r .given) rows ≡ map (λ r. r .said) rows
 unfolding smaller larger sum difference product square rootFrom rootOf quotient quotientR holdsZero absoluteR squareR
-    rootR productR sumR
-    differenceR negR smallerR largerR unaryRange multipliedR binaryRange rangeOf rangeFrom rangeOver sideBelow sideAbove
-    choiceOf choicesFrom reads isIn without onClause shortFrom lastOut shortened listOf sampleAt
+    rootR productR sumR differenceR negR smallerR largerR unaryRange multipliedR binaryRange rangeOf rangeFrom rangeOver
+    sideBelow sideAbove choiceOf choicesFrom reads isIn without onClause shortFrom lastOut shortened listOf sampleAt
     gridFault
 figures = refl
