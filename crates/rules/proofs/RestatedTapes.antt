@@ -1,11 +1,13 @@
 -- Tapes as the paper of formal statements has them, word for word, and each equal to the definition used here. Where
 -- text and parts are the same nothing is repeated: `isIn`, `lastOut`, the tests and records of a clause, `rawsFrom`,
--- `rawsOf`, `listOf`. Runs over ranges and what rests on them are no longer the paper's own, and not here.
+-- `rawsOf`, `listOf`. One test is no longer the paper's own: `isOpcode` takes opcode 14 too, and what is read here is
+-- read with it. Values at a sample are the paper's for tapes with no opcode above 13. Runs over ranges and what rests
+-- on them are no longer the paper's own, and not here.
 use mathlib.Core.Path.{_≡_, refl, sym, ap, ap₂, subst₃, _∙_}
 use mathlib.Core.Bool.{Bool, true, false, _&&_, _||_, not}
 use mathlib.Core.List.{List, [], _∷_, _++_, map, append-nil, append-assoc}
 use lib.IntN.{ℤ, pos}
-use Prim.Native.Nat.{ℕ, zero, suc, _+_, _*_, _%_}
+use Prim.Native.Nat.{ℕ, zero, suc, _+_, _*_, _%_, _≤_}
 use native.Mathlib.Omega.{arith}
 use lib.Dec.{eqb, ltb, leb}
 use lib.ListN.{length, getD, set, drop, replicate}
@@ -57,6 +59,11 @@ pub zeros-same : (n : ℕ) → zeros n ≡ replicate n (pos 0)
 zeros-same zero = refl
 zeros-same (suc n) = ap (λ (l : List ℤ). pos 0 ∷ l) (zeros-same n)
 
+-- Every opcode is one of the paper's, which end at 13.
+abbrev pub UpTo13 : List Clause → Type 0
+UpTo13 [] = Unit {0}
+UpTo13 (c ∷ cs) = (c .opcode ≤ 13) × UpTo13 cs
+
 -- A run on a sample: the slot written by the last clause.
 abbrev pub runFrom : List Clause → Sample → List ℤ → ℤ → ℤ
 runFrom [] s vs last = last
@@ -64,32 +71,33 @@ runFrom (c ∷ cs) s vs last =
     let v = valueOf (c .opcode) (c .constant) s (nthZ vs (c .left)) (nthZ vs (c .right)) in
     runFrom cs s (putZ vs (c .out) v) v
 
-pub run-same : (cs : List Clause) (s : Sample) (vs : List ℤ) (last : ℤ)
+pub run-same : (cs : List Clause) → UpTo13 cs → (s : Sample) (vs : List ℤ) (last : ℤ)
     → runFrom cs s vs last ≡ Tapes.runFrom cs s vs last
 unfolding Tapes.runFrom
-run-same [] s vs last = refl
-run-same (c ∷ cs) s vs last =
+run-same [] u s vs last = refl
+run-same (c ∷ cs) u s vs last =
     let a = nthZ vs (c .left) in
     let b = nthZ vs (c .right) in
     let v = valueOf (c .opcode) (c .constant) s a b in
     let w = Values.valueOf c s (getD vs (c .left) (pos 0)) (getD vs (c .right) (pos 0)) in
-    let e : v ≡ w = value-same c s a b ∙ ap₂ (Values.valueOf c s) (nth-same vs (c .left)) (nth-same vs (c .right)) in
-    run-same cs s (putZ vs (c .out) v) v
+    let f = value-same c s a b (u .0) in
+    let e : v ≡ w = f ∙ ap₂ (Values.valueOf c s) (nth-same vs (c .left)) (nth-same vs (c .right)) in
+    run-same cs (u .1) s (putZ vs (c .out) v) v
     ∙ ap₂ (Tapes.runFrom cs s) (put-same vs (c .out) v ∙ ap (set vs (c .out)) e) e
 
 abbrev pub valueAt : Tape → Sample → ℤ
 valueAt t s = runFrom (t .clauses) s (zeros (t .slots)) (pos 0)
 
-pub value-at-same : (t : Tape) (s : Sample) → valueAt t s ≡ Tapes.valueAt t s
+pub value-at-same : (t : Tape) (s : Sample) → UpTo13 (t .clauses) → valueAt t s ≡ Tapes.valueAt t s
 unfolding Tapes.valueAt
-value-at-same t s = rw (zeros-same (t .slots)) (run-same (t .clauses) s (replicate (t .slots) (pos 0)) (pos 0))
+value-at-same t s u = rw (zeros-same (t .slots)) (run-same (t .clauses) u s (replicate (t .slots) (pos 0)) (pos 0))
 
 abbrev pub material : Tape → Sample → Bool
 material t s = isNeg (valueAt t s)
 
-pub material-same : (t : Tape) (s : Sample) → material t s ≡ Tapes.material t s
+pub material-same : (t : Tape) (s : Sample) → UpTo13 (t .clauses) → material t s ≡ Tapes.material t s
 unfolding Tapes.material
-material-same t s = ap isNeg (value-at-same t s)
+material-same t s u = ap isNeg (value-at-same t s u)
 
 -- Slots of ranges.
 abbrev pub nthR : List Range → ℕ → Range
