@@ -16,6 +16,7 @@ pub mod Runs
 pub mod Needed
 pub mod Short
 pub mod ShortAccepted
+pub mod Marks
 pub mod Visit
 pub mod Regions
 pub mod Bound

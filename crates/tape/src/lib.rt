@@ -4,7 +4,7 @@ pub mod list;
 pub mod write;
 
 // The limits of a tape, and the last row of the table of opcodes.
-pub const SLOT_LIMIT: usize = 64;
+pub const SLOT_LIMIT: usize = 128;
 
 pub const CLAUSE_LIMIT: usize = 1024;
 
