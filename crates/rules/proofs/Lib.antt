@@ -30,6 +30,7 @@ pub mod Heights
 pub mod Nested
 pub mod Tiles
 pub mod Bytes
+pub mod Editions
 pub mod RestatedValues
 pub mod RestatedTapes
 pub mod RestatedDrawings
