@@ -1,24 +1,53 @@
 -- The levels' arrays are as long as the longest tape.
+use mathlib.Core.Path.{refl, sym}
 use native.Mathlib.Omega.{arith}
+use lib.Seq.{length-take-le}
+use Rattle.shortening.proofs.KeptLaws.{places-kept}
 use Rattle.walk.proofs.LookLaws.{sound-length}
 use borrow.Author.Needs.{needs}
 use Rattle.flat_tiles.proofs.tiles.tiles_in.Statement.{statement}
 use Rattle.flat_tiles.proofs.tiles.tiles_in.Tie as tie
 
-abbrev start : tie.After-second → tie.Start
-start c = c .before .before .before .before .before .before .before
+-- The places: the start, before the places are made, and once all arrays are lent.
+abbrev start : tie.After-places → tie.Start
+start c = c .before .before .before .before
+
+abbrev placed : tie.After-secondplaces → tie.After-whole-places
+placed c = c .before .before .before .before .before .before .before .before
+
+slice-aggregate-whole-places : tie.Need-slice-aggregate-whole-places
+slice-aggregate-whole-places c = search needs
+
+whole-places-requires : tie.Need-whole-places-requires
+whole-places-requires c κs = let s = start c in let l = sound-length (s .pre .0) in ((omega arith, l), ?)
+
+array-share-prefix-places : tie.Need-array-share-prefix-places
+array-share-prefix-places c = omega (arith, sound-length (start (c .before .before) .pre .0), c .before .whole-places .kept .0)
 
 slice-aggregate-tile-rows : tie.Need-slice-aggregate-tile-rows
-slice-aggregate-tile-rows c = search needs
+slice-aggregate-tile-rows c = sym (length-take-le _ _ (array-share-prefix-places (c .before)))
 
 slice-aggregate-tile-rows-2 : tie.Need-slice-aggregate-tile-rows-2
 slice-aggregate-tile-rows-2 c = search needs
 
+slice-aggregate-tile-rows-3 : tie.Need-slice-aggregate-tile-rows-3
+slice-aggregate-tile-rows-3 c = search needs
+
+slice-aggregate-tile-rows-4 : tie.Need-slice-aggregate-tile-rows-4
+slice-aggregate-tile-rows-4 c = search needs
+
+slice-aggregate-tile-rows-5 : tie.Need-slice-aggregate-tile-rows-5
+slice-aggregate-tile-rows-5 c = search needs
+
 tile-rows-requires : tie.Need-tile-rows-requires
 tile-rows-requires c κs =
-    let p = start c .pre in
+    let w = placed c in
+    let p = start (w .before) .pre in
     let l = sound-length (p .0) in
-    (p .0, (p .1 .0, (p .1 .1 .0, (p .1 .1 .1, omega arith, omega arith))))
+    (record { sound = p .0; kept = places-kept _ _ l (w .whole-places .ensures) }, (p .1 .0, (p .1 .1 .0, (p .1 .1 .1, l, refl, l, refl))))
+
+returns : tie.Need-returns
+returns c = search needs
 
 same-length : tie.Need-same-length
 same-length c = search needs
@@ -26,15 +55,18 @@ same-length c = search needs
 same-length-2 : tie.Need-same-length-2
 same-length-2 c = search needs
 
-returns : tie.Need-returns
-returns c = search needs
-
 pub tiles-in-spec : {M : Type 1} → statement M
 tiles-in-spec =
     tie.close
     (tie.spec
+    slice-aggregate-whole-places
+    whole-places-requires
+    array-share-prefix-places
     slice-aggregate-tile-rows
     slice-aggregate-tile-rows-2
+    slice-aggregate-tile-rows-3
+    slice-aggregate-tile-rows-4
+    slice-aggregate-tile-rows-5
     tile-rows-requires
     same-length
     same-length-2
