@@ -1,48 +1,133 @@
-// The flat drawing: in full, and by tiles.
+// The flat drawing: in full, and by tiles. The checks come first, then the words of the tape: a tape of edition 01
+// has room in a short array, one of edition 02 in a long one, which a function of its own makes, so that the first
+// needs no more stack than before.
 use crate::Answer;
 use crate::done;
 use crate::refused;
 use crate::steps::first_fault;
 use crate::steps::length_fault;
-use crate::steps::open_tape;
 use crate::steps::work_fault;
+use code::unpack::unpack_words;
 use picture::bits::clear;
 use picture::grid::Grid;
 use picture::grid::grid_fault;
 use tape::CLAUSE_LIMIT;
+use tape::FIRST_CLAUSES;
+use tape::FIRST_SLOTS;
+use tape_check::check_tape;
 ghost use mathlib.Core.Bool.{false};
+ghost use mathlib.Core.Path.{_≡_};
+ghost use Prim.Native.Nat.{_≤_};
+ghost use lib.ListN.{length};
+ghost use Rattle.rules.specs.Tapes.{clauseLimit, firstClauses, readTape};
+ghost use Rattle.rules.specs.Drawings.{workLimit};
+ghost use Rattle.picture.specs.Shapes.{gridIn};
+ghost use Rattle.layers.specs.Sizes.{Draws, FullOf, TilesOf};
 ghost use Rattle.layers.specs.Says.{FullSays, TilesSay};
+
+fn draw_few(tape: &[u8], grid: Grid, picture: &mut [u8]) -> u64
+    requires { ⌜ Draws false (now tape) (gridIn grid false) (length (now picture)) firstClauses ⌝ }
+    ensures { λ r. ⌜ FullOf false (now (tape .entry)) (gridIn grid false) (now (picture .exit)) r ⌝ }
+{
+    let mut words = [0u64; FIRST_CLAUSES];
+    let n = unpack_words(tape, &mut words);
+    full_drawing::flat::draw_flat(&words[..n], grid, picture)
+}
+
+fn draw_many(tape: &[u8], grid: Grid, picture: &mut [u8]) -> u64
+    requires { ⌜ Draws false (now tape) (gridIn grid false) (length (now picture)) clauseLimit ⌝ }
+    ensures { λ r. ⌜ FullOf false (now (tape .entry)) (gridIn grid false) (now (picture .exit)) r ⌝ }
+{
+    let mut words = [0u64; CLAUSE_LIMIT];
+    let n = unpack_words(tape, &mut words);
+    full_drawing::flat::draw_flat(&words[..n], grid, picture)
+}
+
+// In the words that the tape's edition asks for. Edition 02 is told by the slots, then by the clauses: called from two
+// places, what has the long array is not made part of this function, whose frame stays small.
+fn full_of(tape: &[u8], grid: Grid, picture: &mut [u8], slots: u32, clauses: u32) -> u64
+    requires { ⌜ Draws false (now tape) (gridIn grid false) (length (now picture)) clauseLimit ⌝ }
+    requires { ⌜ clauses ≡ length (readTape (now tape) .tape .clauses) ⌝ }
+    ensures { λ r. ⌜ FullOf false (now (tape .entry)) (gridIn grid false) (now (picture .exit)) r ⌝ }
+{
+    if FIRST_SLOTS < slots as usize {
+        return draw_many(tape, grid, picture);
+    }
+    if FIRST_CLAUSES < clauses as usize {
+        return draw_many(tape, grid, picture);
+    }
+    draw_few(tape, grid, picture)
+}
 
 pub fn draw_flat(tape: &[u8], grid: Grid, picture: &mut [u8]) -> Answer
     ensures { λ r. ⌜ FullSays false (now (tape .entry)) grid (now (picture .entry)) (now (picture .exit)) r ⌝ }
 {
-    let mut words = [0u64; CLAUSE_LIMIT];
-    let opened = open_tape(tape, &mut words);
+    let checked = check_tape(tape);
     let grid_line = grid_fault(false, grid);
     let length_line = length_fault(false, grid, picture.len());
-    let fault = first_fault(&[opened.number, grid_line, length_line]);
+    let fault = first_fault(&[checked.number, grid_line, length_line]);
     if fault != 0 {
-        return refused(fault, opened.place);
+        return refused(fault, checked.place);
     }
-    let n = opened.clauses as usize;
-    done(full_drawing::flat::draw_flat(&words[..n], grid, picture))
+    done(full_of(tape, grid, picture, checked.slots, checked.clauses))
+}
+
+fn tile_few(tape: &[u8], grid: Grid, picture: &mut [u8], work: &mut [u8]) -> u64
+    requires { ⌜ Draws false (now tape) (gridIn grid false) (length (now picture)) firstClauses ⌝ }
+    requires { ⌜ workLimit ≤ length (now work) ⌝ }
+    ensures { λ r. ⌜ TilesOf false (now (tape .entry)) (gridIn grid false) (now (picture .exit)) r ⌝ }
+{
+    let mut words = [0u64; FIRST_CLAUSES];
+    let n = unpack_words(tape, &mut words);
+    flat_tiles::tiles::tile_flat(&words[..n], grid, picture, work)
+}
+
+fn tile_many(tape: &[u8], grid: Grid, picture: &mut [u8], work: &mut [u8]) -> u64
+    requires { ⌜ Draws false (now tape) (gridIn grid false) (length (now picture)) clauseLimit ⌝ }
+    requires { ⌜ workLimit ≤ length (now work) ⌝ }
+    ensures { λ r. ⌜ TilesOf false (now (tape .entry)) (gridIn grid false) (now (picture .exit)) r ⌝ }
+{
+    let mut words = [0u64; CLAUSE_LIMIT];
+    let n = unpack_words(tape, &mut words);
+    flat_tiles::tiles::tile_flat(&words[..n], grid, picture, work)
+}
+
+// The walk in the arrays that the tape's edition asks for.
+fn tiles_of(
+    tape: &[u8],
+    grid: Grid,
+    picture: &mut [u8],
+    work: &mut [u8],
+    slots: u32,
+    clauses: u32,
+) -> u64
+    requires { ⌜ Draws false (now tape) (gridIn grid false) (length (now picture)) clauseLimit ⌝ }
+    requires { ⌜ workLimit ≤ length (now work) ⌝ }
+    requires { ⌜ clauses ≡ length (readTape (now tape) .tape .clauses) ⌝ }
+    ensures { λ r. ⌜ TilesOf false (now (tape .entry)) (gridIn grid false) (now (picture .exit)) r ⌝ }
+{
+    if FIRST_SLOTS < slots as usize {
+        return tile_many(tape, grid, picture, work);
+    }
+    if FIRST_CLAUSES < clauses as usize {
+        return tile_many(tape, grid, picture, work);
+    }
+    tile_few(tape, grid, picture, work)
 }
 
 pub fn tile_flat(tape: &[u8], grid: Grid, picture: &mut [u8], work: &mut [u8]) -> Answer
     ensures { λ r. ⌜ TilesSay false (now (tape .entry)) grid (now (picture .entry)) (now (picture .exit))
         (now (work .entry)) (now (work .exit)) r ⌝ }
 {
-    let mut words = [0u64; CLAUSE_LIMIT];
-    let opened = open_tape(tape, &mut words);
+    let checked = check_tape(tape);
     let grid_line = grid_fault(false, grid);
     let length_line = length_fault(false, grid, picture.len());
     let work_line = work_fault(work.len());
-    let fault = first_fault(&[opened.number, grid_line, length_line, work_line]);
+    let fault = first_fault(&[checked.number, grid_line, length_line, work_line]);
     if fault != 0 {
-        return refused(fault, opened.place);
+        return refused(fault, checked.place);
     }
-    let n = opened.clauses as usize;
-    let count = flat_tiles::tiles::tile_flat(&words[..n], grid, picture, work);
+    let count = tiles_of(tape, grid, picture, work, checked.slots, checked.clauses);
     clear(work);
     done(count)
 }
