@@ -17,7 +17,8 @@ use Rattle.code.specs.Words.{tapeIn, Runnable}
 use Rattle.code.specs.Runs.{Fit, Bounded}
 use Rattle.code.proofs.WordTapes.{words-run, words-runnable, length-clauses}
 use Rattle.shortening.specs.Kept.{Chosen, Cut}
-use Rattle.shortening.proofs.KeptLaws.{choices-chosen, cut-kept}
+use Rattle.shortening.proofs.ChoiceLaws.{choices-chosen}
+use Rattle.shortening.proofs.KeptLaws.{cut-kept}
 use Rattle.shortening.proofs.CutLaws.{short-tape}
 use Rattle.picture.specs.Shapes.{gridIn}
 use Rattle.picture.specs.declared.grid.Grid.{Grid}
