@@ -33,9 +33,10 @@ slice-aggregate-tile-rows c = sym (length-take-le _ _ (slice-reshare-prefix-tile
 tile-rows-requires : tie.Need-tile-rows-requires
 tile-rows-requires c κs =
     let w = lent c in
-    let p = start w .pre in
-    (record { sound = p .0; kept = places-kept _ _ (sound-length (p .0)) (w .whole-places .ensures) },
-     (p .1 .0, (p .1 .1 .0, p .1 .1 .1 .1)))
+    let p = start w .pre in (
+      record { sound = p .0; kept = places-kept _ _ (sound-length (p .0)) (w .whole-places .ensures) },
+      (p .1 .0, (p .1 .1 .0, p .1 .1 .1 .1)),
+    )
 
 returns : tie.Need-returns
 returns c = search needs
