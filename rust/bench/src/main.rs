@@ -1,8 +1,10 @@
 //! `bench` prints a table of times: the core's tiles beside the plain walk and the full drawing.
 //! `bench tiles|plain|full flat|solid NAME` draws one part once, for a profiler.
+//! `bench lengths` prints a table of the lengths of short tapes.
 
 use bench::drawing::{Canvas, Kind, Way};
 use bench::measure::{Times, in_turn};
+use bench::plain::short_lengths;
 use layers::Grid;
 use parts::Part;
 
@@ -10,8 +12,9 @@ fn main() {
     let words: Vec<String> = std::env::args().skip(1).collect();
     match words.iter().map(String::as_str).collect::<Vec<_>>()[..] {
         [] => table(),
+        ["lengths"] => lengths(),
         [way, kind, name] => once(way, kind, name),
-        _ => panic!("usage: bench [tiles|plain|full flat|solid NAME]"),
+        _ => panic!("usage: bench [lengths | tiles|plain|full flat|solid NAME]"),
     }
 }
 
@@ -84,4 +87,20 @@ fn print_row(part: &Part, size: &str, [tiles, plain]: [Times; 2], full: Option<f
         per_clause(tiles_ms),
         per_clause(plain_ms),
     );
+}
+
+/// The short tapes of the flat drawing's regions that are cut, by the plain walk, whose count is the core's.
+fn lengths() {
+    println!(
+        "| part | clauses | slots | 64-tiles cut | mean short tape | shorter | 8-tiles cut | mean short tape | shorter |"
+    );
+    println!("|---|--:|--:|--:|--:|--:|--:|--:|--:|");
+    for part in parts::all() {
+        let whole = part.clauses() as f64;
+        let columns = short_lengths(part.tape.as_bytes(), part.flat).map(|lengths| {
+            let mean = lengths.iter().sum::<usize>() as f64 / lengths.len() as f64;
+            format!("{} | {mean:.1} | {:.1}", lengths.len(), whole / mean)
+        });
+        println!("| {} | {whole} | {} | {} | {} |", part.name, part.tape.slots(), columns[0], columns[1]);
+    }
 }
