@@ -1,6 +1,8 @@
 //! The example parts. y runs downward in a picture, and a solid is seen from above, from the side of great z.
 
 mod bracket;
+mod chart;
+mod font;
 mod gear;
 mod housing;
 mod lattice;
@@ -10,5 +12,13 @@ mod tray;
 use crate::Design;
 
 pub fn designs() -> Vec<Design> {
-    vec![bracket::bracket(), gear::gear(), housing::housing(), lettering::lettering(), lattice::lattice(), tray::tray()]
+    vec![
+        bracket::bracket(),
+        gear::gear(),
+        housing::housing(),
+        lettering::lettering(),
+        lattice::lattice(),
+        tray::tray(),
+        chart::chart(),
+    ]
 }
