@@ -1,7 +1,6 @@
-//! A plain Rust version of the walk: the same regions in the same order, the same packed words, the same rules and limits.
-//! A short tape is kept as words, in full, and not as marks beside the tape as given: that is how the walk would be
-//! written without the bound on the work buffer. It trusts its tape and grid, so it is given only those that the core
-//! accepted.
+//! A plain Rust version of the walk: the same regions in the same order, the same packed words, the same rules and
+//! limits. A short tape is kept as its words, and not as marks beside the tape as given: so one would write the walk if
+//! nothing bounded the room to work in. It trusts its tape and grid, so it is given only those that the core accepted.
 
 mod arith;
 mod flat;

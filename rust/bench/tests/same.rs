@@ -38,8 +38,8 @@ fn on_every_part() {
     }
 }
 
-/// What the walk runs, by the lengths of its short tapes: each tile has the whole tape, each 8-tile its tile's short tape,
-/// each sample its 8-tile's. The grid has whole tiles.
+/// What the walk runs, by the lengths of its short tapes: each tile has the whole tape, each 8-tile its tile's short
+/// tape, each sample its 8-tile's. The grid has whole tiles.
 #[test]
 fn short_lengths_sum_up_to_the_count() {
     for part in parts::all() {

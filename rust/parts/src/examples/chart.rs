@@ -1,4 +1,4 @@
-//! A shop's chart of tapping drills as a plate with raised letters: more clauses and slots than a tape of edition 01 has.
+//! A shop's chart of tapping drills as a plate with raised letters: more clauses and slots than edition 01 has.
 //!
 //! Its columns begin at the same places in every row, so that letters one below the other have their bounds along x in
 //! common. These wait in slots from row to row and are computed once: some hundred at a time.
