@@ -91,9 +91,7 @@ fn print_row(part: &Part, size: &str, [tiles, plain]: [Times; 2], full: Option<f
 
 /// The short tapes of the flat drawing's regions that are cut, by the plain walk, whose count is the core's.
 fn lengths() {
-    println!(
-        "| part | clauses | slots | 64-tiles cut | mean short tape | shorter | 8-tiles cut | mean | shorter |"
-    );
+    println!("| part | clauses | slots | 64-tiles cut | mean short tape | shorter | 8-tiles cut | mean | shorter |");
     println!("|---|--:|--:|--:|--:|--:|--:|--:|--:|");
     for part in parts::all() {
         let whole = part.clauses() as f64;
