@@ -89,16 +89,41 @@ fn print_row(part: &Part, size: &str, [tiles, plain]: [Times; 2], full: Option<f
     );
 }
 
-/// The short tapes of the flat drawing's regions that are cut, by the plain walk, whose count is the core's.
+/// The short tapes of the regions that are cut, by the plain walk, whose count is the core's: in the part's layer, and
+/// in the same layer of twice as many pixels on each axis, drawn as four.
 fn lengths() {
-    println!("| part | clauses | slots | 64-tiles cut | mean short tape | shorter | 8-tiles cut | mean | shorter |");
-    println!("|---|--:|--:|--:|--:|--:|--:|--:|--:|");
+    println!(
+        "| part | clauses | slots | pixels | 64-tiles cut | mean short tape | shorter | 8-tiles cut | mean | shorter |"
+    );
+    println!("|---|--:|--:|---|--:|--:|--:|--:|--:|--:|");
     for part in parts::all() {
-        let whole = part.clauses() as f64;
-        let columns = short_lengths(part.tape.as_bytes(), part.flat).map(|lengths| {
-            let mean = lengths.iter().sum::<usize>() as f64 / lengths.len() as f64;
-            format!("{} | {mean:.1} | {:.1}", lengths.len(), whole / mean)
-        });
-        println!("| {} | {whole} | {} | {} | {} |", part.name, part.tape.slots(), columns[0], columns[1]);
+        print_lengths(&part, "512²", &[part.flat]);
+        print_lengths(&part, "1024²", &quarters(part.flat));
     }
+}
+
+fn print_lengths(part: &Part, size: &str, grids: &[Grid]) {
+    let mut all = [Vec::new(), Vec::new()];
+    for grid in grids {
+        let lengths = short_lengths(part.tape.as_bytes(), *grid);
+        all.iter_mut().zip(lengths).for_each(|(all, lengths)| all.extend(lengths));
+    }
+    let columns = all.map(|lengths| {
+        let mean = lengths.iter().sum::<usize>() as f64 / lengths.len() as f64;
+        format!("{} | {mean:.1} | {:.1}", lengths.len(), part.clauses() as f64 / mean)
+    });
+    let (slots, columns) = (part.tape.slots(), columns.join(" | "));
+    println!("| {} | {} | {slots} | {size} | {columns} |", part.name, part.clauses());
+}
+
+/// The four quarters of a layer, each on as many pixels as the whole had.
+fn quarters(grid: Grid) -> [Grid; 4] {
+    let (xstep, ystep) = (grid.xstep / 2, grid.ystep / 2);
+    [(0, 0), (1, 0), (0, 1), (1, 1)].map(|(right, down)| Grid {
+        xorigin: grid.xorigin + right * xstep * grid.width as i32,
+        yorigin: grid.yorigin + down * ystep * grid.height as i32,
+        xstep,
+        ystep,
+        ..grid
+    })
 }

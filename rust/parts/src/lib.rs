@@ -7,7 +7,7 @@ pub mod shape;
 pub mod slots;
 
 use formula::{Formula, nearest};
-use layers::{FIRST_EDITION_CLAUSES, FIRST_EDITION_SLOTS, Grid, MAX_SLOTS, Tape};
+use layers::{Grid, MAX_SLOTS, Tape};
 use shape::Shape;
 use slots::{TooBig, compile};
 
@@ -32,17 +32,9 @@ pub struct Design {
 
 impl Design {
     pub fn part(&self) -> Part {
-        let tape = self.tape().unwrap_or_else(|e| panic!("{}: {e:?}", self.name));
+        let tape = self.compiled(MAX_SLOTS).unwrap_or_else(|e| panic!("{}: {e:?}", self.name));
         let flat = Grid { depth: 0, zorigin: nearest(self.z), zstep: 0, ..self.grid(512) };
         Part { name: self.name, tape, flat, solid: self.grid(128) }
-    }
-
-    /// The part's tape, of edition 1 if that can hold it, since cores of every age read that.
-    fn tape(&self) -> Result<Tape, TooBig> {
-        match self.compiled(FIRST_EDITION_SLOTS) {
-            Ok(small) if small.clauses().len() <= FIRST_EDITION_CLAUSES => Ok(small),
-            _ => self.compiled(MAX_SLOTS),
-        }
     }
 
     /// The part's tape within a number of slots.
