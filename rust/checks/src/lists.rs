@@ -96,17 +96,6 @@ fn list(r: &mut Random, grid: &Grid, slots: u64, count: u64, kind: &Kind) -> Lis
     List { slots: slots as u32, clauses }
 }
 
-/// A list of choices on few slots, so that slots are used again.
-pub fn random(r: &mut Random, grid: &Grid) -> List {
-    let slots = if r.one_in(20) { 64 } else { 1 + r.below(8) };
-    let count = match r.below(200) {
-        0 => 1024,
-        1..=9 => 60,
-        _ => 1 + r.below(30),
-    };
-    list(r, grid, slots, count, &CHOICES)
-}
-
 /// A list of more slots than edition 01 has.
 pub fn wide(r: &mut Random, grid: &Grid) -> List {
     let (slots, count) = (65 + r.below(64), 40 + r.below(160));
@@ -137,6 +126,17 @@ pub fn spread(r: &mut Random, list: &List) -> List {
         [opcode, places[out as usize], place(opcode >= 4, left), place(opcode >= 9, right), constant]
     });
     List { slots, clauses: clauses.collect() }
+}
+
+/// A list of choices on few slots, so that slots are used again.
+pub fn random(r: &mut Random, grid: &Grid) -> List {
+    let slots = if r.one_in(20) { 64 } else { 1 + r.below(8) };
+    let count = match r.below(200) {
+        0 => 1024,
+        1..=9 => 60,
+        _ => 1 + r.below(30),
+    };
+    list(r, grid, slots, count, &CHOICES)
 }
 
 /// A short list of arithmetic; its result often goes past an end of the range and back, or is a product about 0, or a
