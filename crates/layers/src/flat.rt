@@ -1,6 +1,7 @@
-// The flat drawing: in full, and by tiles. The checks come first, then the words of the tape: a tape of edition 01
-// has room in a short array, one of edition 02 in a long one, which a function of its own makes, so that the first
-// needs no more stack than before.
+// The flat drawing: in full, and by tiles. The checks come first, then the words of the tape. A tape of edition 01 has
+// room in a short array; one of edition 02 is drawn by a whole call of its own, with a long one. That call is large and
+// stands at two places, for the slots and for the clauses, so the compiler leaves it a function of its own: the short
+// array's frame is all that a tape of edition 01 takes.
 use crate::Answer;
 use crate::done;
 use crate::refused;
@@ -16,10 +17,9 @@ use tape::FIRST_CLAUSES;
 use tape::FIRST_SLOTS;
 use tape_check::check_tape;
 ghost use mathlib.Core.Bool.{false};
-ghost use mathlib.Core.Path.{_≡_};
 ghost use Prim.Native.Nat.{_≤_};
 ghost use lib.ListN.{length};
-ghost use Rattle.rules.specs.Tapes.{clauseLimit, firstClauses, readTape};
+ghost use Rattle.rules.specs.Tapes.{clauseLimit, firstClauses};
 ghost use Rattle.rules.specs.Drawings.{workLimit};
 ghost use Rattle.picture.specs.Shapes.{gridIn};
 ghost use Rattle.layers.specs.Sizes.{Draws, FullOf, TilesOf};
@@ -43,23 +43,8 @@ fn draw_many(tape: &[u8], grid: Grid, picture: &mut [u8]) -> u64
     full_drawing::flat::draw_flat(&words[..n], grid, picture)
 }
 
-// In the words that the tape's edition asks for. Edition 02 is told by the slots, then by the clauses: called from two
-// places, what has the long array is not made part of this function, whose frame stays small.
-fn full_of(tape: &[u8], grid: Grid, picture: &mut [u8], slots: u32, clauses: u32) -> u64
-    requires { ⌜ Draws false (now tape) (gridIn grid false) (length (now picture)) clauseLimit ⌝ }
-    requires { ⌜ clauses ≡ length (readTape (now tape) .tape .clauses) ⌝ }
-    ensures { λ r. ⌜ FullOf false (now (tape .entry)) (gridIn grid false) (now (picture .exit)) r ⌝ }
-{
-    if FIRST_SLOTS < slots as usize {
-        return draw_many(tape, grid, picture);
-    }
-    if FIRST_CLAUSES < clauses as usize {
-        return draw_many(tape, grid, picture);
-    }
-    draw_few(tape, grid, picture)
-}
-
-pub fn draw_flat(tape: &[u8], grid: Grid, picture: &mut [u8]) -> Answer
+// The whole call for a tape of edition 02.
+fn draw_long(tape: &[u8], grid: Grid, picture: &mut [u8]) -> Answer
     ensures { λ r. ⌜ FullSays false (now (tape .entry)) grid (now (picture .entry)) (now (picture .exit)) r ⌝ }
 {
     let checked = check_tape(tape);
@@ -69,7 +54,26 @@ pub fn draw_flat(tape: &[u8], grid: Grid, picture: &mut [u8]) -> Answer
     if fault != 0 {
         return refused(fault, checked.place);
     }
-    done(full_of(tape, grid, picture, checked.slots, checked.clauses))
+    done(draw_many(tape, grid, picture))
+}
+
+pub fn draw_flat(tape: &[u8], grid: Grid, picture: &mut [u8]) -> Answer
+    ensures { λ r. ⌜ FullSays false (now (tape .entry)) grid (now (picture .entry)) (now (picture .exit)) r ⌝ }
+{
+    let checked = check_tape(tape);
+    if FIRST_SLOTS < checked.slots as usize {
+        return draw_long(tape, grid, picture);
+    }
+    if FIRST_CLAUSES < checked.clauses as usize {
+        return draw_long(tape, grid, picture);
+    }
+    let grid_line = grid_fault(false, grid);
+    let length_line = length_fault(false, grid, picture.len());
+    let fault = first_fault(&[checked.number, grid_line, length_line]);
+    if fault != 0 {
+        return refused(fault, checked.place);
+    }
+    done(draw_few(tape, grid, picture))
 }
 
 // The walk of the tape's words, in buffers that are lent: for the words, and for the words and places of each level.
@@ -156,30 +160,8 @@ fn tile_many(tape: &[u8], grid: Grid, picture: &mut [u8], work: &mut [u8]) -> u6
     )
 }
 
-// The walk in the arrays that the tape's edition asks for.
-fn tiles_of(
-    tape: &[u8],
-    grid: Grid,
-    picture: &mut [u8],
-    work: &mut [u8],
-    slots: u32,
-    clauses: u32,
-) -> u64
-    requires { ⌜ Draws false (now tape) (gridIn grid false) (length (now picture)) clauseLimit ⌝ }
-    requires { ⌜ workLimit ≤ length (now work) ⌝ }
-    requires { ⌜ clauses ≡ length (readTape (now tape) .tape .clauses) ⌝ }
-    ensures { λ r. ⌜ TilesOf false (now (tape .entry)) (gridIn grid false) (now (picture .exit)) r ⌝ }
-{
-    if FIRST_SLOTS < slots as usize {
-        return tile_many(tape, grid, picture, work);
-    }
-    if FIRST_CLAUSES < clauses as usize {
-        return tile_many(tape, grid, picture, work);
-    }
-    tile_few(tape, grid, picture, work)
-}
-
-pub fn tile_flat(tape: &[u8], grid: Grid, picture: &mut [u8], work: &mut [u8]) -> Answer
+// The whole call for a tape of edition 02.
+fn tile_long(tape: &[u8], grid: Grid, picture: &mut [u8], work: &mut [u8]) -> Answer
     ensures { λ r. ⌜ TilesSay false (now (tape .entry)) grid (now (picture .entry)) (now (picture .exit))
         (now (work .entry)) (now (work .exit)) r ⌝ }
 {
@@ -191,7 +173,30 @@ pub fn tile_flat(tape: &[u8], grid: Grid, picture: &mut [u8], work: &mut [u8]) -
     if fault != 0 {
         return refused(fault, checked.place);
     }
-    let count = tiles_of(tape, grid, picture, work, checked.slots, checked.clauses);
+    let count = tile_many(tape, grid, picture, work);
+    clear(work);
+    done(count)
+}
+
+pub fn tile_flat(tape: &[u8], grid: Grid, picture: &mut [u8], work: &mut [u8]) -> Answer
+    ensures { λ r. ⌜ TilesSay false (now (tape .entry)) grid (now (picture .entry)) (now (picture .exit))
+        (now (work .entry)) (now (work .exit)) r ⌝ }
+{
+    let checked = check_tape(tape);
+    if FIRST_SLOTS < checked.slots as usize {
+        return tile_long(tape, grid, picture, work);
+    }
+    if FIRST_CLAUSES < checked.clauses as usize {
+        return tile_long(tape, grid, picture, work);
+    }
+    let grid_line = grid_fault(false, grid);
+    let length_line = length_fault(false, grid, picture.len());
+    let work_line = work_fault(work.len());
+    let fault = first_fault(&[checked.number, grid_line, length_line, work_line]);
+    if fault != 0 {
+        return refused(fault, checked.place);
+    }
+    let count = tile_few(tape, grid, picture, work);
     clear(work);
     done(count)
 }

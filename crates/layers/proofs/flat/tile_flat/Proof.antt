@@ -4,7 +4,7 @@ use mathlib.Core.Bool.{false}
 use lib.ListN.{length, replicate}
 use Rattle.picture.specs.Shapes.{gridIn}
 use Rattle.layers.specs.Says.{tileFault}
-use Rattle.layers.proofs.Drawing.{draws}
+use Rattle.layers.proofs.Drawing.{draws, draws-few}
 use Rattle.layers.proofs.Tiling.{tile-lines, TilesClear, tiles-clear}
 use Rattle.layers.proofs.Tiling.{tiles-refused, tiles-done}
 use borrow.Author.Needs.{needs}
@@ -21,8 +21,12 @@ at-length c = at-work c .before
 abbrev at-grid : tie.After-first-fault → tie.After-grid-fault
 at-grid c = at-length c .before
 
+-- Edition 01: neither the slots nor the clauses are many.
+abbrev at-few : tie.After-first-fault → tie.Else2
+at-few c = at-grid c .before
+
 abbrev at-checked : tie.After-first-fault → tie.After-check-tape
-at-checked c = at-grid c .before
+at-checked c = at-few c .before .before .before .before
 
 abbrev at-start : tie.After-first-fault → tie.Start
 at-start c = at-checked c .before .before .before .before
@@ -38,18 +42,55 @@ fault c =
     (at-checked c .check-tape .ensures .number) (at-grid c .grid-fault .ensures)
     (at-length c .length-fault .ensures) (at-work c .work-fault .ensures)
 
-none : (c : tie.Else1)
+none : (c : tie.Else3)
     → (let a = at-start (c .before) .args in
     tileFault false (a .tape .now) (gridIn (a .grid) false) (length (a .picture .now)) (length (a .work .now)) ≡ 0)
-none c = sym (fault (c .before)) ∙ c .if1 .left
+none c = sym (fault (c .before)) ∙ c .if3 .left
 
-checked : (c : tie.Else1)
+checked : (c : tie.Else3)
     → (let a = at-start (c .before) .args in
     TilesClear false (a .tape .now) (gridIn (a .grid) false) (length (a .picture .now)) (length (a .work .now)))
 checked c = tiles-clear _ _ _ _ _ (none c)
 
+-- The work buffer cleared, and the drawing before.
+abbrev at-cleared : tie.After-done → tie.After-clear
+at-cleared c = c .before .before .before
+
+abbrev at-drawn : tie.After-clear → tie.After-tile-few
+at-drawn c = c .before .before .before .before .before .before
+
 check-tape-requires : tie.Need-check-tape-requires
 check-tape-requires c κs = search needs
+
+cast-if1 : tie.Need-cast-if1
+cast-if1 c = search needs
+
+tile-long-requires : tie.Need-tile-long-requires
+tile-long-requires c κs = search needs
+
+same-length : tie.Need-same-length
+same-length c = search needs
+
+same-length-2 : tie.Need-same-length-2
+same-length-2 c = search needs
+
+returns : tie.Need-returns
+returns c = search needs
+
+cast-if2 : tie.Need-cast-if2
+cast-if2 c = search needs
+
+tile-long-requires-2 : tie.Need-tile-long-requires-2
+tile-long-requires-2 c κs = search needs
+
+same-length-3 : tie.Need-same-length-3
+same-length-3 c = search needs
+
+same-length-4 : tie.Need-same-length-4
+same-length-4 c = search needs
+
+returns-2 : tie.Need-returns-2
+returns-2 c = search needs
 
 grid-fault-requires : tie.Need-grid-fault-requires
 grid-fault-requires c κs = search needs
@@ -69,16 +110,18 @@ first-fault-requires c κs = search needs
 refused-requires : tie.Need-refused-requires
 refused-requires c κs = search needs
 
-returns : tie.Need-returns
-returns c =
+returns-3 : tie.Need-returns-3
+returns-3 c =
     let f = c .before .before in
-    tiles-refused false _ _ _ _ (c .refused .ensures) (fault f) (c .before .if1 .taken)
+    tiles-refused false _ _ _ _ (c .refused .ensures) (fault f) (c .before .if3 .taken)
     (at-checked f .check-tape .ensures .place)
 
-tiles-of-requires : tie.Need-tiles-of-requires
-tiles-of-requires c κs =
+tile-few-requires : tie.Need-tile-few-requires
+tile-few-requires c κs =
     let e = c .before .before in
-    (draws (checked e .drawing), (checked e .work, at-checked (e .before) .check-tape .ensures .clauses))
+    let k = checked e in
+    let n = at-checked (e .before) .check-tape .ensures .clauses in
+    (draws-few (draws (k .drawing)) n (at-few (e .before) .if2 .left), k .work)
 
 clear-requires : tie.Need-clear-requires
 clear-requires c κs = search needs
@@ -86,40 +129,44 @@ clear-requires c κs = search needs
 done-requires : tie.Need-done-requires
 done-requires c κs = search needs
 
-same-length : tie.Need-same-length
-same-length c = search needs
+same-length-5 : tie.Need-same-length-5
+same-length-5 c = search needs
 
-same-length-2 : tie.Need-same-length-2
-same-length-2 c = search needs
+same-length-6 : tie.Need-same-length-6
+same-length-6 c = search needs
 
-abbrev at-cleared : tie.After-done → tie.After-clear
-at-cleared c = c .before .before .before
-
-abbrev at-drawn : tie.After-clear → tie.After-tiles-of
-at-drawn c = c .before .before .before .before .before .before
-
-returns-2 : tie.Need-returns-2
-returns-2 c =
+returns-4 : tie.Need-returns-4
+returns-4 c =
     let k = at-cleared c in
     let v = at-drawn k in
-    tiles-done false _ _ _ _ (c .done .ensures) (none (v .before .before .before)) (v .tiles-of .ensures)
-    (k .clear .ensures ∙ ap (λ m. replicate m 0) (v .tiles-of .kept .1 .1 .1 .0))
+    tiles-done false _ _ _ _ (c .done .ensures) (none (v .before .before .before)) (v .tile-few .ensures)
+    (k .clear .ensures ∙ ap (λ m. replicate m 0) (v .tile-few .kept .1 .1 .1 .0))
 
 pub tile-flat-spec : {M : Type 1} → statement M
 tile-flat-spec =
     tie.close
     (tie.spec
     check-tape-requires
+    cast-if1
+    tile-long-requires
+    same-length
+    same-length-2
+    returns
+    cast-if2
+    tile-long-requires-2
+    same-length-3
+    same-length-4
+    returns-2
     grid-fault-requires
     length-fault-requires
     work-fault-requires
     slice-aggregate-first-fault
     first-fault-requires
     refused-requires
-    returns
-    tiles-of-requires
+    returns-3
+    tile-few-requires
     clear-requires
     done-requires
-    same-length
-    same-length-2
-    returns-2)
+    same-length-5
+    same-length-6
+    returns-4)

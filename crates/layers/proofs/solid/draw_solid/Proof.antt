@@ -4,7 +4,7 @@ use mathlib.Core.Bool.{true}
 use lib.ListN.{length}
 use Rattle.picture.specs.Shapes.{gridIn}
 use Rattle.layers.specs.Says.{drawFault}
-use Rattle.layers.proofs.Drawing.{draw-lines, Clear, clear, draws}
+use Rattle.layers.proofs.Drawing.{draw-lines, Clear, clear, draws, draws-few}
 use Rattle.layers.proofs.Drawing.{full-refused, full-done}
 use borrow.Author.Needs.{needs}
 use Rattle.layers.proofs.solid.draw_solid.Statement.{statement}
@@ -17,8 +17,12 @@ at-length c = c .before .before
 abbrev at-grid : tie.After-first-fault → tie.After-grid-fault
 at-grid c = at-length c .before
 
+-- Edition 01: neither the slots nor the clauses are many.
+abbrev at-few : tie.After-first-fault → tie.Else2
+at-few c = at-grid c .before
+
 abbrev at-checked : tie.After-first-fault → tie.After-check-tape
-at-checked c = at-grid c .before
+at-checked c = at-few c .before .before .before .before
 
 abbrev at-start : tie.After-first-fault → tie.Start
 at-start c = at-checked c .before .before .before
@@ -33,18 +37,42 @@ fault c =
     (at-checked c .check-tape .ensures .number) (at-grid c .grid-fault .ensures)
     (at-length c .length-fault .ensures)
 
-none : (c : tie.Else1)
+none : (c : tie.Else3)
     → (let a = at-start (c .before) .args in
     drawFault true (a .tape .now) (gridIn (a .grid) true) (length (a .picture .now)) ≡ 0)
-none c = sym (fault (c .before)) ∙ c .if1 .left
+none c = sym (fault (c .before)) ∙ c .if3 .left
 
-checked : (c : tie.Else1)
+checked : (c : tie.Else3)
     → (let a = at-start (c .before) .args in
     Clear true (a .tape .now) (gridIn (a .grid) true) (length (a .picture .now)))
 checked c = clear _ _ _ _ (none c)
 
 check-tape-requires : tie.Need-check-tape-requires
 check-tape-requires c κs = search needs
+
+cast-if1 : tie.Need-cast-if1
+cast-if1 c = search needs
+
+draw-long-requires : tie.Need-draw-long-requires
+draw-long-requires c κs = search needs
+
+same-length : tie.Need-same-length
+same-length c = search needs
+
+returns : tie.Need-returns
+returns c = search needs
+
+cast-if2 : tie.Need-cast-if2
+cast-if2 c = search needs
+
+draw-long-requires-2 : tie.Need-draw-long-requires-2
+draw-long-requires-2 c κs = search needs
+
+same-length-2 : tie.Need-same-length-2
+same-length-2 c = search needs
+
+returns-2 : tie.Need-returns-2
+returns-2 c = search needs
 
 grid-fault-requires : tie.Need-grid-fault-requires
 grid-fault-requires c κs = search needs
@@ -61,40 +89,48 @@ first-fault-requires c κs = search needs
 refused-requires : tie.Need-refused-requires
 refused-requires c κs = search needs
 
-returns : tie.Need-returns
-returns c =
+returns-3 : tie.Need-returns-3
+returns-3 c =
     let f = c .before .before in
-    full-refused true _ _ _ (c .refused .ensures) (fault f) (c .before .if1 .taken)
+    full-refused true _ _ _ (c .refused .ensures) (fault f) (c .before .if3 .taken)
     (at-checked f .check-tape .ensures .place)
 
-full-of-requires : tie.Need-full-of-requires
-full-of-requires c κs =
+draw-few-requires : tie.Need-draw-few-requires
+draw-few-requires c κs =
     let e = c .before in
-    (draws (checked e), at-checked (e .before) .check-tape .ensures .clauses)
+    draws-few (draws (checked e)) (at-checked (e .before) .check-tape .ensures .clauses) (at-few (e .before) .if2 .left)
 
 done-requires : tie.Need-done-requires
 done-requires c κs = search needs
 
-same-length : tie.Need-same-length
-same-length c = search needs
+same-length-3 : tie.Need-same-length-3
+same-length-3 c = search needs
 
-returns-2 : tie.Need-returns-2
-returns-2 c =
+returns-4 : tie.Need-returns-4
+returns-4 c =
     let v = c .before .before .before in
-    full-done true _ _ _ (c .done .ensures) (none (v .before .before)) (v .full-of .ensures)
+    full-done true _ _ _ (c .done .ensures) (none (v .before .before)) (v .draw-few .ensures)
 
 pub draw-solid-spec : {M : Type 1} → statement M
 draw-solid-spec =
     tie.close
     (tie.spec
     check-tape-requires
+    cast-if1
+    draw-long-requires
+    same-length
+    returns
+    cast-if2
+    draw-long-requires-2
+    same-length-2
+    returns-2
     grid-fault-requires
     length-fault-requires
     slice-aggregate-first-fault
     first-fault-requires
     refused-requires
-    returns
-    full-of-requires
+    returns-3
+    draw-few-requires
     done-requires
-    same-length
-    returns-2)
+    same-length-3
+    returns-4)
