@@ -75,6 +75,9 @@ module _ {t : Bool} {s : List ℕ} {g : D.Grid} {n m : ℕ} (d : Draws t s g n m
   pub words-few : length (take k ws′) ≤ clauseLimit
   words-few = omega (arith, length-take-le k ws′ words-room, o .count, few-clauses s (d .read))
 
+  pub words-within : length (take k ws′) ≤ m
+  words-within = omega (arith, length-take-le k ws′ words-room, words-room, l)
+
   pub words-accepted : Accepted (tapeIn (readTape s .tape .slots) (take k ws′))
   words-accepted = unpacked-accepted s ws ws′ k o (d .read)
 

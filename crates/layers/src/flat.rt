@@ -17,6 +17,7 @@ use tape::FIRST_CLAUSES;
 use tape::FIRST_SLOTS;
 use tape_check::check_tape;
 ghost use mathlib.Core.Bool.{false};
+ghost use mathlib.Core.Path.{_≡_};
 ghost use Prim.Native.Nat.{_≤_};
 ghost use lib.ListN.{length};
 ghost use Rattle.rules.specs.Tapes.{clauseLimit, firstClauses};

@@ -6,7 +6,7 @@ use native.Mathlib.Omega.{arith}
 use lib.ListN.{length}
 use lib.Seq.{length-take-le}
 use Rattle.layers.proofs.StepLaws.{solid-size}
-use Rattle.layers.proofs.Drawing.{words-room, words-few, sound, tiles-of}
+use Rattle.layers.proofs.Drawing.{words-room, words-few, words-within, sound, tiles-of}
 use Rattle.layers.proofs.solid.tile_words.Statement.{statement}
 use Rattle.layers.proofs.solid.tile_words.Tie as tie
 
@@ -42,9 +42,15 @@ tile-solid-requires c κs =
     let d = start u .pre .0 in
     let r = start u .pre .1 in
     let o = u .unpack-words .ensures in
-    let few = words-few d o (long u) in
-    let room = length-take-le _ _ (words-room d o (long u)) in
-    (sound d o (long u), ?)
+    let h = long u in
+    let few = words-few d o h in
+    let within = words-within d o h in (
+      sound d o h,
+      (
+        record { fault = d .grid; size = d .size ∙ sym (solid-size true _ refl) },
+        (omega arith, (omega arith, omega arith, omega arith, omega arith, omega arith, omega arith, omega arith)),
+      ),
+    )
 
 returns : tie.Need-returns
 returns c =
