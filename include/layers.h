@@ -2,7 +2,8 @@
  * Lezantsiro: the layer core's calls for C.
  *
  * A buffer is a pointer and its length in elements, and stays the caller's: a call keeps no pointer, allocates nothing
- * and uses less than 64 KiB of stack.
+ * and uses less than 64 KiB of stack on a tape of edition 01, less than 320 KiB on one of edition 02. (Edition
+ * 02 is for tapes that 01 cannot hold: more than 64 slots, up to 128, or more than 1,024 clauses, up to 6,144.)
  *
  * The calls are proved in a language that knows four things of every buffer of a call. C knows none of them, so the
  * caller sees to each, also where the length is 0 and where the call is refused; else nothing that is proved holds:
@@ -21,7 +22,7 @@
  *
  *    1 tape below 8 bytes
  *    2 head mark, edition or spare bytes wrong
- *    3 slot or clause count out of range
+ *    3 slot or clause count out of range, or edition not that of these counts
  *    4 tape length not 8 + 10*clauses; list length not a multiple of 5
  *    5 clause mark wrong, or opcode not 0 to 14
  *    6 a used slot field below 0, or not below the slot count
@@ -74,7 +75,10 @@ typedef struct {
     int32_t zstep;
 } LayersGrid;
 
-/* A list, five numbers to a clause (opcode, out, left, right, constant), to a tape of 8 + 10 bytes a clause, and back. */
+/*
+ * A list, five numbers to a clause (opcode, out, left, right, constant), to a tape of 8 + 10 bytes a clause, and back.
+ * The tape is of edition 01 if it has at most 64 slots and 1,024 clauses, otherwise of edition 02.
+ */
 LayersAnswer layers_pack_tape(uint32_t slots, const int32_t *list, size_t list_len, uint8_t *out, size_t out_len);
 LayersListed layers_unpack_tape(const uint8_t *tape, size_t tape_len, int32_t *out, size_t out_len);
 
@@ -82,7 +86,10 @@ LayersListed layers_unpack_tape(const uint8_t *tape, size_t tape_len, int32_t *o
 LayersAnswer layers_draw_flat(const uint8_t *tape, size_t tape_len, LayersGrid grid, uint8_t *picture, size_t picture_len);
 LayersAnswer layers_draw_solid(const uint8_t *tape, size_t tape_len, LayersGrid grid, uint16_t *picture, size_t picture_len);
 
-/* The same pictures, drawn by tiles. work has at least LAYERS_WORK bytes. */
+/*
+ * The same pictures, drawn by tiles. work has at least LAYERS_WORK bytes, whatever the tape: a short tape is kept there
+ * as two bits a clause beside the tape as given. What it held before does not matter, and after the call it is 0.
+ */
 LayersAnswer layers_tile_flat(const uint8_t *tape, size_t tape_len, LayersGrid grid, uint8_t *picture, size_t picture_len,
                               uint8_t *work, size_t work_len);
 LayersAnswer layers_tile_solid(const uint8_t *tape, size_t tape_len, LayersGrid grid, uint16_t *picture, size_t picture_len,

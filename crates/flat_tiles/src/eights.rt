@@ -2,6 +2,7 @@
 use crate::look::look;
 use crate::samples::sample_rows;
 use picture::grid::Grid;
+use shortening::marks::mark_room;
 use walk::cell::Cell;
 use walk::cell::cell_at;
 use walk::look::Seen;
@@ -11,29 +12,45 @@ ghost use Prim.Native.Nat.{_*_, _%_, _<_, _≤_};
 ghost use lib.ListN.{length};
 ghost use Rattle.rules.specs.Drawings.{region, alongX, alongY};
 ghost use Rattle.walk.specs.Cells.{Ready, InGrid, CellOk};
-ghost use Rattle.walk.specs.Walks.{Sound, Visits, Folds};
+ghost use Rattle.walk.specs.Walks.{Level, MarksFit, Visits, Folds};
 ghost use Rattle.flat_tiles.specs.Sides.{below8};
 
 // At most 65 runs: the region and 64 samples.
 fn visit_eight(
+    whole: &[u64],
     code: &[u64],
+    places: &[u16],
     grid: Grid,
     x: u32,
     y: u32,
     picture: &mut [u8],
-    choices: &mut [u8],
+    work: &mut [u8],
     second: &mut [u64],
+    secondplaces: &mut [u16],
 ) -> u64
-    requires { ⌜ Sound (now code) ⌝ }
+    requires { ⌜ Level (now whole) (now code) (now places) ⌝ }
     requires { ⌜ Ready false grid (now picture) ⌝ }
     requires { ⌜ InGrid 1 grid x y 0 ⌝ }
     requires { ⌜ x % 8 ≡ 0 ⌝ }
-    requires { ⌜ (length (now code) ≤ length (now choices)) × (length (now code) ≤ length (now second)) ⌝ }
+    requires { ⌜ MarksFit 2 (now whole) (now work) × (length (now whole) ≤ length (now second))
+        × (length (now secondplaces) ≡ length (now second)) ⌝ }
     ensures { λ r. ⌜ Visits false 65 (now (code .entry)) grid below8 (region x y 0 8)
         (now (picture .entry)) (now (picture .exit)) r ⌝ }
 {
     let cell = cell_at(grid, 1, x, y, 0, 8);
-    let seen = look(code, grid, cell, picture, choices, second);
+    let base = whole.len() + mark_room(whole.len());
+    let seen = look(
+        whole,
+        code,
+        places,
+        grid,
+        cell,
+        picture,
+        work,
+        base,
+        second,
+        secondplaces,
+    );
     match seen {
         Seen::Done(count) => count,
         Seen::Open(start) => {
@@ -45,44 +62,63 @@ fn visit_eight(
 }
 
 fn eight_row(
+    whole: &[u64],
     code: &[u64],
+    places: &[u16],
     grid: Grid,
     parent: Cell,
     y: u32,
     picture: &mut [u8],
-    choices: &mut [u8],
+    work: &mut [u8],
     second: &mut [u64],
+    secondplaces: &mut [u16],
 ) -> u64
-    requires { ⌜ Sound (now code) ⌝ }
+    requires { ⌜ Level (now whole) (now code) (now places) ⌝ }
     requires { ⌜ Ready false grid (now picture) ⌝ }
     requires { ⌜ CellOk 1 grid parent ⌝ }
     requires { ⌜ (parent .side ≡ 64) × (parent .x % 8 ≡ 0) × (y < parent .yend) ⌝ }
-    requires { ⌜ (length (now code) ≤ length (now choices)) × (length (now code) ≤ length (now second)) ⌝ }
+    requires { ⌜ MarksFit 2 (now whole) (now work) × (length (now whole) ≤ length (now second))
+        × (length (now secondplaces) ≡ length (now second)) ⌝ }
     ensures { λ r. ⌜ Folds false (8 * 65) (now (code .entry)) grid below8 (alongX 8 (parent .x) y 0 8 (parent .xend))
         (now (picture .entry)) (now (picture .exit)) r ⌝ }
 {
     let mut count: u64 = 0;
     let mut x = parent.x;
     while x < parent.xend {
-        count += visit_eight(code, grid, x, y, picture, choices, second);
+        count += visit_eight(
+            whole,
+            code,
+            places,
+            grid,
+            x,
+            y,
+            picture,
+            work,
+            second,
+            secondplaces,
+        );
         x += 8;
     }
     count
 }
 
 pub fn eight_rows(
+    whole: &[u64],
     code: &[u64],
+    places: &[u16],
     grid: Grid,
     parent: Cell,
     picture: &mut [u8],
-    choices: &mut [u8],
+    work: &mut [u8],
     second: &mut [u64],
+    secondplaces: &mut [u16],
 ) -> u64
-    requires { ⌜ Sound (now code) ⌝ }
+    requires { ⌜ Level (now whole) (now code) (now places) ⌝ }
     requires { ⌜ Ready false grid (now picture) ⌝ }
     requires { ⌜ CellOk 1 grid parent ⌝ }
     requires { ⌜ (parent .side ≡ 64) × (parent .x % 8 ≡ 0) ⌝ }
-    requires { ⌜ (length (now code) ≤ length (now choices)) × (length (now code) ≤ length (now second)) ⌝ }
+    requires { ⌜ MarksFit 2 (now whole) (now work) × (length (now whole) ≤ length (now second))
+        × (length (now secondplaces) ≡ length (now second)) ⌝ }
     ensures { λ r. ⌜ Folds false (64 * 65) (now (code .entry)) grid below8
         (alongY 8 8 (parent .x) (parent .y) 0 8 (parent .xend) (parent .yend))
         (now (picture .entry)) (now (picture .exit)) r ⌝ }
@@ -90,7 +126,18 @@ pub fn eight_rows(
     let mut count: u64 = 0;
     let mut y = parent.y;
     while y < parent.yend {
-        count += eight_row(code, grid, parent, y, picture, choices, second);
+        count += eight_row(
+            whole,
+            code,
+            places,
+            grid,
+            parent,
+            y,
+            picture,
+            work,
+            second,
+            secondplaces,
+        );
         y += 8;
     }
     count

@@ -1,8 +1,8 @@
 // What the sides 64 and 8 share: a region's range and its filling.
 use code::run::run_ranges;
-use code::shorten::shorten;
 use picture::bits::fill_rect;
 use picture::grid::Grid;
+use shortening::cut::cut;
 use walk::cell::Cell;
 use walk::cell::flat_bounds;
 use walk::look::Seen;
@@ -10,12 +10,13 @@ use walk::verdict::Verdict;
 use walk::verdict::verdict_on;
 ghost use mathlib.Core.Path.{_≡_};
 ghost use mathlib.Core.Bool.{false};
-ghost use Prim.Native.Nat.{_%_, _≤_};
+ghost use Prim.Native.Nat.{_+_, _%_, _≤_};
 ghost use lib.ListN.{length};
+ghost use Rattle.shortening.specs.Kept.{markRoom};
 ghost use Rattle.picture.specs.Shapes.{gridIn};
 ghost use Rattle.walk.specs.Cells.{Ready, CellOk, regionIn};
 ghost use Rattle.walk.specs.Draws.{Fills};
-ghost use Rattle.walk.specs.Walks.{Sound, Shown, Looked};
+ghost use Rattle.walk.specs.Walks.{Level, Shown, Looked};
 
 fn fill(grid: Grid, c: Cell, picture: &mut [u8])
     requires { ⌜ Ready false grid (now picture) ⌝ }
@@ -37,28 +38,37 @@ fn fill(grid: Grid, c: Cell, picture: &mut [u8])
 }
 
 pub fn look(
+    whole: &[u64],
     code: &[u64],
+    places: &[u16],
     grid: Grid,
     c: Cell,
     picture: &mut [u8],
-    choices: &mut [u8],
+    work: &mut [u8],
+    base: usize,
     next: &mut [u64],
+    nextplaces: &mut [u16],
 ) -> Seen
-    requires { ⌜ Sound (now code) ⌝ }
+    requires { ⌜ Level (now whole) (now code) (now places) ⌝ }
     requires { ⌜ Ready false grid (now picture) ⌝ }
     requires { ⌜ CellOk 1 grid c ⌝ }
     requires { ⌜ c .x % 8 ≡ 0 ⌝ }
-    requires { ⌜ (length (now code) ≤ length (now choices)) × (length (now code) ≤ length (now next)) ⌝ }
-    ensures { λ r. ⌜ Looked false (now (code .entry)) grid (regionIn c) (now (picture .entry)) (now (picture .exit))
-        (now (next .exit)) r ⌝ }
+    requires { ⌜ (length (now whole) ≤ base) × (base + markRoom (length (now whole)) ≤ length (now work)) ⌝ }
+    requires { ⌜ (length (now whole) ≤ length (now next)) × (length (now nextplaces) ≡ length (now next)) ⌝ }
+    ensures { λ r. ⌜ Looked false (now (whole .entry)) (now (code .entry)) (now (places .entry)) grid (regionIn c)
+        (now (picture .entry)) (now (picture .exit)) (now (work .exit)) (now (next .exit))
+        (now (nextplaces .exit)) r ⌝ }
 {
-    let range = run_ranges(code, flat_bounds(grid, c), choices);
+    let range = run_ranges(code, flat_bounds(grid, c), work);
     match verdict_on(range) {
         Verdict::Full => {
             fill(grid, c, picture);
             Seen::Done(code.len() as u64)
         }
         Verdict::Empty => Seen::Done(code.len() as u64),
-        Verdict::Mixed => Seen::Open(shorten(code, choices, next)),
+        Verdict::Mixed => {
+            let start = cut(whole, code, places, work, base, next, nextplaces);
+            Seen::Open(start)
+        }
     }
 }

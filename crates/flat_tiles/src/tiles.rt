@@ -3,7 +3,7 @@ use crate::eights::eight_rows;
 use crate::look::look;
 use picture::bits::clear;
 use picture::grid::Grid;
-use tape::CLAUSE_LIMIT;
+use shortening::expand::whole_places;
 use walk::cell::cell_at;
 use walk::look::Seen;
 ghost use mathlib.Core.Path.{_≡_};
@@ -12,38 +12,64 @@ ghost use Prim.Native.Nat.{_*_, _%_, _<_, _≤_};
 ghost use lib.ListN.{length};
 ghost use Rattle.rules.specs.Drawings.{flatBound, region, alongX, alongY};
 ghost use Rattle.walk.specs.Cells.{Ready, InGrid};
-ghost use Rattle.walk.specs.Walks.{Sound, Visits, Folds, Walked};
+ghost use Rattle.walk.specs.Walks.{Sound, Level, MarksFit, Visits, Folds, Walked};
 ghost use Rattle.flat_tiles.specs.Rects.{RectIn};
 ghost use Rattle.flat_tiles.specs.Sides.{below64};
 
 // At most 4,161 runs: the tile, 64 of side 8 and 4,096 samples.
 fn visit_tile(
-    code: &[u64],
+    whole: &[u64],
+    places: &[u16],
     grid: Grid,
     x: u32,
     y: u32,
     picture: &mut [u8],
-    choices: &mut [u8],
+    work: &mut [u8],
     first: &mut [u64],
+    firstplaces: &mut [u16],
     second: &mut [u64],
+    secondplaces: &mut [u16],
 ) -> u64
-    requires { ⌜ Sound (now code) ⌝ }
+    requires { ⌜ Level (now whole) (now whole) (now places) ⌝ }
     requires { ⌜ Ready false grid (now picture) ⌝ }
     requires { ⌜ InGrid 1 grid x y 0 ⌝ }
     requires { ⌜ x % 8 ≡ 0 ⌝ }
-    requires { ⌜ (length (now code) ≤ length (now choices)) × (length (now code) ≤ length (now first))
-        × (length (now code) ≤ length (now second)) ⌝ }
-    ensures { λ r. ⌜ Visits false flatBound (now (code .entry)) grid below64 (region x y 0 64)
+    requires { ⌜ MarksFit 2 (now whole) (now work)
+        × (length (now whole) ≤ length (now first)) × (length (now firstplaces) ≡ length (now first))
+        × (length (now whole) ≤ length (now second)) × (length (now secondplaces) ≡ length (now second)) ⌝ }
+    ensures { λ r. ⌜ Visits false flatBound (now (whole .entry)) grid below64 (region x y 0 64)
         (now (picture .entry)) (now (picture .exit)) r ⌝ }
 {
     let cell = cell_at(grid, 1, x, y, 0, 64);
-    let seen = look(code, grid, cell, picture, choices, first);
+    let seen = look(
+        whole,
+        whole,
+        places,
+        grid,
+        cell,
+        picture,
+        work,
+        whole.len(),
+        first,
+        firstplaces,
+    );
     match seen {
         Seen::Done(count) => count,
         Seen::Open(start) => {
             let short = &first[start..];
-            let inside = eight_rows(short, grid, cell, picture, choices, second);
-            code.len() as u64 + inside
+            let shortplaces = &firstplaces[start..];
+            let inside = eight_rows(
+                whole,
+                short,
+                shortplaces,
+                grid,
+                cell,
+                picture,
+                work,
+                second,
+                secondplaces,
+            );
+            whole.len() as u64 + inside
         }
     }
 }
@@ -57,82 +83,152 @@ pub struct Rect {
 }
 
 fn tile_row(
-    code: &[u64],
+    whole: &[u64],
+    places: &[u16],
     grid: Grid,
     rect: Rect,
     y: u32,
     picture: &mut [u8],
-    choices: &mut [u8],
+    work: &mut [u8],
     first: &mut [u64],
+    firstplaces: &mut [u16],
     second: &mut [u64],
+    secondplaces: &mut [u16],
 ) -> u64
-    requires { ⌜ Sound (now code) ⌝ }
+    requires { ⌜ Level (now whole) (now whole) (now places) ⌝ }
     requires { ⌜ Ready false grid (now picture) ⌝ }
     requires { ⌜ RectIn grid rect ⌝ }
     requires { ⌜ y < rect .yend ⌝ }
-    requires { ⌜ (length (now code) ≤ length (now choices)) × (length (now code) ≤ length (now first))
-        × (length (now code) ≤ length (now second)) ⌝ }
-    ensures { λ r. ⌜ Folds false (8 * flatBound) (now (code .entry)) grid below64
+    requires { ⌜ MarksFit 2 (now whole) (now work)
+        × (length (now whole) ≤ length (now first)) × (length (now firstplaces) ≡ length (now first))
+        × (length (now whole) ≤ length (now second)) × (length (now secondplaces) ≡ length (now second)) ⌝ }
+    ensures { λ r. ⌜ Folds false (8 * flatBound) (now (whole .entry)) grid below64
         (alongX 8 (rect .x) y 0 64 (rect .xend)) (now (picture .entry)) (now (picture .exit)) r ⌝ }
 {
     let mut count: u64 = 0;
     let mut x = rect.x;
     while x < rect.xend {
-        count += visit_tile(code, grid, x, y, picture, choices, first, second);
+        count += visit_tile(
+            whole,
+            places,
+            grid,
+            x,
+            y,
+            picture,
+            work,
+            first,
+            firstplaces,
+            second,
+            secondplaces,
+        );
         x += 64;
     }
     count
 }
 
 fn tile_rows(
-    code: &[u64],
+    whole: &[u64],
+    places: &[u16],
     grid: Grid,
     rect: Rect,
     picture: &mut [u8],
-    choices: &mut [u8],
+    work: &mut [u8],
     first: &mut [u64],
+    firstplaces: &mut [u16],
     second: &mut [u64],
+    secondplaces: &mut [u16],
 ) -> u64
-    requires { ⌜ Sound (now code) ⌝ }
+    requires { ⌜ Level (now whole) (now whole) (now places) ⌝ }
     requires { ⌜ Ready false grid (now picture) ⌝ }
     requires { ⌜ RectIn grid rect ⌝ }
-    requires { ⌜ (length (now code) ≤ length (now choices)) × (length (now code) ≤ length (now first))
-        × (length (now code) ≤ length (now second)) ⌝ }
-    ensures { λ r. ⌜ Folds false (64 * flatBound) (now (code .entry)) grid below64
+    requires { ⌜ MarksFit 2 (now whole) (now work)
+        × (length (now whole) ≤ length (now first)) × (length (now firstplaces) ≡ length (now first))
+        × (length (now whole) ≤ length (now second)) × (length (now secondplaces) ≡ length (now second)) ⌝ }
+    ensures { λ r. ⌜ Folds false (64 * flatBound) (now (whole .entry)) grid below64
         (alongY 8 8 (rect .x) (rect .y) 0 64 (rect .xend) (rect .yend))
         (now (picture .entry)) (now (picture .exit)) r ⌝ }
 {
     let mut count: u64 = 0;
     let mut y = rect.y;
     while y < rect.yend {
-        count += tile_row(code, grid, rect, y, picture, choices, first, second);
+        count += tile_row(
+            whole,
+            places,
+            grid,
+            rect,
+            y,
+            picture,
+            work,
+            first,
+            firstplaces,
+            second,
+            secondplaces,
+        );
         y += 64;
     }
     count
 }
 
-// The tiles of a rectangle, onto what the picture shows. The level buffers are made here, once a call: a short tape is
-// no longer than the tape.
-pub fn tiles_in(code: &[u64], grid: Grid, rect: Rect, picture: &mut [u8], choices: &mut [u8]) -> u64
-    requires { ⌜ Sound (now code) ⌝ }
+// The tiles of a rectangle, onto what the picture shows. The buffers of the levels are lent: a short tape is no longer
+// than the tape.
+pub fn tiles_in(
+    whole: &[u64],
+    places: &mut [u16],
+    grid: Grid,
+    rect: Rect,
+    picture: &mut [u8],
+    work: &mut [u8],
+    first: &mut [u64],
+    firstplaces: &mut [u16],
+    second: &mut [u64],
+    secondplaces: &mut [u16],
+) -> u64
+    requires { ⌜ Sound (now whole) ⌝ }
     requires { ⌜ Ready false grid (now picture) ⌝ }
     requires { ⌜ RectIn grid rect ⌝ }
-    requires { ⌜ length (now code) ≤ length (now choices) ⌝ }
-    ensures { λ r. ⌜ Folds false (64 * flatBound) (now (code .entry)) grid below64
+    requires { ⌜ length (now whole) ≤ length (now places) ⌝ }
+    requires { ⌜ MarksFit 2 (now whole) (now work)
+        × (length (now whole) ≤ length (now first)) × (length (now firstplaces) ≡ length (now first))
+        × (length (now whole) ≤ length (now second)) × (length (now secondplaces) ≡ length (now second)) ⌝ }
+    ensures { λ r. ⌜ Folds false (64 * flatBound) (now (whole .entry)) grid below64
         (alongY 8 8 (rect .x) (rect .y) 0 64 (rect .xend) (rect .yend))
         (now (picture .entry)) (now (picture .exit)) r ⌝ }
 {
-    let mut first = [0u64; CLAUSE_LIMIT];
-    let mut second = [0u64; CLAUSE_LIMIT];
-    tile_rows(code, grid, rect, picture, choices, &mut first, &mut second)
+    let n = whole.len();
+    whole_places(places, n);
+    tile_rows(
+        whole,
+        &places[..n],
+        grid,
+        rect,
+        picture,
+        work,
+        first,
+        firstplaces,
+        second,
+        secondplaces,
+    )
 }
 
 // The whole drawing, whatever the picture held.
-pub fn tile_flat(code: &[u64], grid: Grid, picture: &mut [u8], choices: &mut [u8]) -> u64
-    requires { ⌜ Sound (now code) ⌝ }
+pub fn tile_flat(
+    whole: &[u64],
+    places: &mut [u16],
+    grid: Grid,
+    picture: &mut [u8],
+    work: &mut [u8],
+    first: &mut [u64],
+    firstplaces: &mut [u16],
+    second: &mut [u64],
+    secondplaces: &mut [u16],
+) -> u64
+    requires { ⌜ Sound (now whole) ⌝ }
     requires { ⌜ Ready false grid (now picture) ⌝ }
-    requires { ⌜ length (now code) ≤ length (now choices) ⌝ }
-    ensures { λ r. ⌜ Walked false (now (code .entry)) grid (now (picture .exit)) r ⌝ }
+    requires { ⌜ length (now whole) ≤ length (now places) ⌝ }
+    requires { ⌜ MarksFit 2 (now whole) (now work)
+        × (length (now whole) ≤ length (now first)) × (length (now firstplaces) ≡ length (now first))
+        × (length (now whole) ≤ length (now second)) × (length (now secondplaces) ≡ length (now second)) ⌝ }
+    ensures { λ r. ⌜ Walked false (now (whole .entry)) grid (now (picture .exit)) r ⌝ }
 {
     clear(picture);
     let all = Rect {
@@ -141,5 +237,16 @@ pub fn tile_flat(code: &[u64], grid: Grid, picture: &mut [u8], choices: &mut [u8
         y: 0,
         yend: grid.height,
     };
-    tiles_in(code, grid, all, picture, choices)
+    tiles_in(
+        whole,
+        places,
+        grid,
+        all,
+        picture,
+        work,
+        first,
+        firstplaces,
+        second,
+        secondplaces,
+    )
 }

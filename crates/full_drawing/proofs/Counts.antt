@@ -11,13 +11,13 @@ use Rattle.code.specs.Words.{clausesIn, tapeIn}
 pub record CountFits (k w h d : ℕ) : Type 0 where
   pub column : h * d ≤ 262144
   pub samples : w * (h * d) ≤ 134217728
-  pub clauses : k * (w * (h * d)) ≤ 137438953472
+  pub clauses : k * (w * (h * d)) ≤ 824633720832
 
 pub count-fits : (k w h d : ℕ) → k ≤ clauseLimit → w ≤ sizeLimit → h ≤ sizeLimit → d ≤ sizeLimit → CountFits k w h d
 count-fits k w h d lk lw lh ld =
     let a : h * d ≤ 512 * 512 = mul-le-mul lh ld in
     let b : w * (h * d) ≤ 512 * 262144 = mul-le-mul lw a in
-    let c : k * (w * (h * d)) ≤ 1024 * 134217728 = mul-le-mul lk b in
+    let c : k * (w * (h * d)) ≤ 6144 * 134217728 = mul-le-mul lk b in
     record { column = a; samples = b; clauses = c }
 
 pub full-count : (n : ℕ) (ws : List ℕ) (g : Grid) (c : ℕ) → c ≡ length ws * (g .width * (g .height * layers g))

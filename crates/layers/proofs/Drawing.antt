@@ -1,5 +1,5 @@
--- The drawing calls: what a 0 of the checks says, the words of an opened tape, and the two ends of a full drawing.
-use mathlib.Core.Path.{_≡_, refl, sym, ap, subst, _∙_}
+-- The drawing calls: what a 0 of the checks says, the words of an unpacked tape, and the two ends of a full drawing.
+use mathlib.Core.Path.{_≡_, refl, ap, _∙_}
 use mathlib.Core.Bool.{Bool, true, false, not}
 use mathlib.Core.List.{List, [], _∷_}
 use Prim.Native.Nat.{ℕ, suc, _≤_}
@@ -9,14 +9,12 @@ use lib.ListN.{length, take}
 use lib.Seq.{length-take-le}
 use borrow.Author.Tests.{eqb-true, ne-eqb, eq-eqb}
 use Rattle.rules.specs.Values.{firstFault, when}
-use Rattle.rules.specs.Tapes.{readTape, clauseLimit}
+use Rattle.rules.specs.Tapes.{readTape, clauseLimit, firstClauses}
 use Rattle.rules.specs.Drawings as D
 use Rattle.rules.specs.Pictures.{picture, pictureSize}
 use Rattle.rules.proofs.Lines.{each-line}
 use Rattle.rules.specs.Accepted.{Accepted}
 use Rattle.rules.proofs.Accepted.{accepted-tape}
-use Rattle.tape_check.specs.Checks.{Answers}
-use Rattle.tape_check.specs.declared.Checked.{Checked}
 use Rattle.code.specs.Words.{tapeIn}
 use Rattle.code.specs.Runs.{Fit}
 use Rattle.code.specs.Unpacking.{Unpackable, Unpacked}
@@ -24,8 +22,10 @@ use Rattle.code.proofs.WordTapes.{words-run, words-runnable, unpacked-tape, unp
 use Rattle.picture.specs.Shapes.{gridIn}
 use Rattle.picture.specs.declared.grid.Grid.{Grid}
 use Rattle.full_drawing.specs.Full.{Drawable, FullDrawn}
+use Rattle.walk.specs.Walks.{Sound, Walked}
 use Rattle.layers.specs.declared.Answer.{Answer}
-use Rattle.layers.specs.Says.{Opens, lengthFault, drawLines, drawFault, FullSays}
+use Rattle.layers.specs.Says.{lengthFault, drawLines, drawFault, FullSays}
+use Rattle.layers.specs.Sizes.{Draws, FullOf, TilesOf}
 use Rattle.layers.proofs.Answers.{answer, refused-by, done-by}
 
 when-zero : (t : Bool) (n : ℕ) → when (not t) (suc n) ≡ 0 → t ≡ true
@@ -52,50 +52,74 @@ clear t s g n e =
       size = eqb-true n (pictureSize t g) (when-zero (eqb n (pictureSize t g)) 11 (z 2));
     }
 
--- An accepted tape has room in the words.
+-- An accepted tape has room in the long array, and one of edition 01 in the short one.
 few-clauses : (s : List ℕ) → readTape s .number ≡ 0 → length (readTape s .tape .clauses) ≤ clauseLimit
 few-clauses s e = accepted-tape s e .clauses
 
-pub room : (s ws : List ℕ) → readTape s .number ≡ 0 → length ws ≡ clauseLimit → Unpackable s ws
-room s ws e l = record { accepted = e; room = omega (arith, few-clauses s e) }
+pub draws : {t : Bool} {s : List ℕ} {g : D.Grid} {n : ℕ} → Clear t s g n → Draws t s g n clauseLimit
+draws {s = s} k = record { read = k .read; room = few-clauses s (k .read); grid = k .grid; size = k .size }
 
--- Opening a tape: unpacked, as many words as the tape has clauses; or left, where the tape is refused.
-pub opened : {s ws ws′ : List ℕ} {q : Checked} {k : ℕ} → Answers q (readTape s) → length ws′ ≡ clauseLimit
-    → Unpacked s ws ws′ k → Opens s ws ws′ q
-opened {s} {ws} {ws′} a l u =
-    record { read = a; words = λ _. subst (Unpacked s ws ws′) (u .count ∙ sym (a .clauses)) u; room = λ _. l }
+pub draws-few : {t : Bool} {s : List ℕ} {g : D.Grid} {n m k : ℕ} → Draws t s g n m
+    → k ≡ length (readTape s .tape .clauses) → k ≤ firstClauses → Draws t s g n firstClauses
+draws-few d e h = record { read = d .read; room = omega arith; grid = d .grid; size = d .size }
 
-pub not-opened : {s ws : List ℕ} {q : Checked} → Answers q (readTape s) → (q .number ≡ 0 → ⊥) → Opens s ws ws q
-not-opened a h =
-    record { read = a; words = λ z. absurd (h (a .number ∙ z)); room = λ z. absurd (h (a .number ∙ z)) }
+pub unpackable : {t : Bool} {s ws : List ℕ} {g : D.Grid} {n m : ℕ} → Draws t s g n m → length ws ≡ m → Unpackable s ws
+unpackable d e = record { accepted = d .read; room = omega arith }
 
--- The words of an opened tape that is accepted: how many, and that they run.
-module _ {s ws ws′ : List ℕ} {q : Checked} (o : Opens s ws ws′ q) (e : readTape s .number ≡ 0) where
-  pub words-room : q .clauses ≤ length ws′
-  words-room = omega (arith, o .words e .count, o .room e, few-clauses s e)
+-- The words of a tape that is accepted and unpacked: how many, and that they run.
+module _ {t : Bool} {s : List ℕ} {g : D.Grid} {n m : ℕ} (d : Draws t s g n m) {ws ws′ : List ℕ} {k : ℕ}
+    (o : Unpacked s ws ws′ k) (l : length ws′ ≡ m) where
+  pub words-room : k ≤ length ws′
+  words-room = omega (arith, o .count, d .room)
 
-  pub words-few : length (take (q .clauses) ws′) ≤ clauseLimit
-  words-few = omega (arith, length-take-le (q .clauses) ws′ words-room, o .room e, words-room)
+  pub words-few : length (take k ws′) ≤ clauseLimit
+  words-few = omega (arith, length-take-le k ws′ words-room, o .count, few-clauses s (d .read))
 
-  pub words-accepted : Accepted (tapeIn (readTape s .tape .slots) (take (q .clauses) ws′))
-  words-accepted = unpacked-accepted s ws ws′ (q .clauses) (o .words e) e
+  pub words-within : length (take k ws′) ≤ m
+  words-within = omega (arith, length-take-le k ws′ words-room, words-room, l)
 
-  pub words-tape : tapeIn (readTape s .tape .slots) (take (q .clauses) ws′) ≡ readTape s .tape
-  words-tape = unpacked-tape s ws ws′ (q .clauses) (o .words e)
+  pub words-accepted : Accepted (tapeIn (readTape s .tape .slots) (take k ws′))
+  words-accepted = unpacked-accepted s ws ws′ k o (d .read)
 
-  words-fit : Fit (readTape s .tape .slots) (take (q .clauses) ws′)
+  words-tape : tapeIn (readTape s .tape .slots) (take k ws′) ≡ readTape s .tape
+  words-tape = unpacked-tape s ws ws′ k o
+
+  words-fit : Fit (readTape s .tape .slots) (take k ws′)
   words-fit =
       record {
         slots = words-accepted .slots;
-        all = words-run (readTape s .tape .slots) (take (q .clauses) ws′) words-accepted;
+        all = words-run (readTape s .tape .slots) (take k ws′) words-accepted;
       }
 
-  pub drawable : {t : Bool} {g : D.Grid} → D.gridFault t g ≡ 0 → Drawable t (take (q .clauses) ws′) g
-  drawable a =
+  pub drawable : Drawable t (take k ws′) g
+  drawable =
       record {
-        runnable = words-runnable (readTape s .tape .slots) (take (q .clauses) ws′) words-accepted;
-        accepted = a;
+        runnable = words-runnable (readTape s .tape .slots) (take k ws′) words-accepted;
+        accepted = d .grid;
       }
+
+  pub sound : Sound (take k ws′)
+  sound = record { slots = readTape s .tape .slots; accepted = words-accepted }
+
+  -- What these words draw, the tape draws.
+  pub full-of : {o′ : List ℕ} {c : ℕ} → FullDrawn t (take k ws′) g o′ c → FullOf t s g o′ c
+  full-of v =
+      let n = readTape s .tape .slots in
+      record {
+        pixels = v .pixels n words-fit ∙ ap (λ a. picture t g (D.drawn a g)) words-tape;
+        count = v .clauses n words-fit ∙ ap (λ a. D.fullCount a g) words-tape;
+      }
+
+pub tiles-of : {t : Bool} {s : List ℕ} {r : Grid} {n m : ℕ} → Draws t s (gridIn r t) n m → {ws ws′ : List ℕ} {k : ℕ}
+    → Unpacked s ws ws′ k → length ws′ ≡ m → {o′ : List ℕ} {c : ℕ} → Walked t (take k ws′) r o′ c
+    → TilesOf t s (gridIn r t) o′ c
+tiles-of {t} {s} {r} d o l v =
+    let g = gridIn r t in
+    let n = readTape s .tape .slots in
+    record {
+      pixels = v .pixels n (words-accepted d o l) ∙ ap (λ b. picture t g (D.walked b g .heights)) (words-tape d o l);
+      count = v .count n (words-accepted d o l) ∙ ap (λ b. D.walked b g .clauses) (words-tape d o l);
+    }
 
 -- A refused drawing: its answer, and every byte as it was.
 pub full-refused : (t : Bool) (s : List ℕ) (d : Grid) (o : List ℕ) {f p : ℕ} {r : Answer} → r ≡ answer f p 0
@@ -106,16 +130,12 @@ full-refused t s d o e k h p =
     record { answer = refused-by s lines refl e k h p; pixels = rw z }
 
 -- A full drawing that is done.
-pub full-done : (t : Bool) (s : List ℕ) (d : Grid) (o : List ℕ) {o′ ws ws′ : List ℕ} {q : Checked} {k : ℕ} {r : Answer}
-    → r ≡ answer 0 0 k → drawFault t s (gridIn d t) (length o) ≡ 0 → Opens s ws ws′ q
-    → FullDrawn t (take (q .clauses) ws′) (gridIn d t) o′ k → FullSays t s d o o′ r
-full-done t s d o e z w v =
-    let g = gridIn d t in
-    let i = clear t s g (length o) z .read in
-    let n = readTape s .tape .slots in
-    let m = words-tape w i in
-    let y = eq-eqb (drawFault t s g (length o)) 0 z in
+pub full-done : (t : Bool) (s : List ℕ) (d : Grid) (o : List ℕ) {o′ : List ℕ} {k : ℕ} {r : Answer}
+    → r ≡ answer 0 0 k → drawFault t s (gridIn d t) (length o) ≡ 0 → FullOf t s (gridIn d t) o′ k
+    → FullSays t s d o o′ r
+full-done t s d o e z v =
+    let y = eq-eqb (drawFault t s (gridIn d t) (length o)) 0 z in
     record {
-      answer = done-by (drawLines t s g (length o)) e z (v .clauses n (words-fit w i) ∙ ap (λ a. D.fullCount a g) m);
-      pixels = v .pixels n (words-fit w i) ∙ ap (λ a. picture t g (D.drawn a g)) m ∙ rw y;
+      answer = done-by (drawLines t s (gridIn d t) (length o)) e z (v .count);
+      pixels = v .pixels ∙ rw y;
     }

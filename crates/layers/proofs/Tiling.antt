@@ -1,10 +1,10 @@
 -- The calls that draw by tiles: refused, or done.
-use mathlib.Core.Path.{_≡_, refl, ap, _∙_}
-use mathlib.Core.Bool.{Bool, true, false}
+use mathlib.Core.Path.{_≡_, refl, _∙_}
+use mathlib.Core.Bool.{Bool}
 use mathlib.Core.List.{List, [], _∷_}
 use Prim.Native.Nat.{ℕ, _≤_}
 use lib.Dec.{ltb}
-use lib.ListN.{length, take, replicate}
+use lib.ListN.{length, replicate}
 use borrow.Author.Tests.{ne-eqb, eq-eqb, ltb-false}
 use Rattle.rules.specs.Values.{firstFault}
 use Rattle.rules.specs.Tapes.{readTape}
@@ -12,19 +12,13 @@ use Rattle.rules.specs.Drawings as D
 use Rattle.rules.specs.Pictures.{picture}
 use Rattle.rules.proofs.Tests.{last-off}
 use Rattle.rules.proofs.Lines.{each-line}
-use Rattle.tape_check.specs.declared.Checked.{Checked}
 use Rattle.picture.specs.Shapes.{gridIn}
 use Rattle.picture.specs.declared.grid.Grid.{Grid}
-use Rattle.walk.specs.Walks.{Sound, Walked}
 use Rattle.layers.specs.declared.Answer.{Answer}
-use Rattle.layers.specs.Says.{Opens, lengthFault, workFault, tileLines, tileFault, TilesSay}
+use Rattle.layers.specs.Says.{lengthFault, workFault, tileLines, tileFault, TilesSay}
+use Rattle.layers.specs.Sizes.{TilesOf}
 use Rattle.layers.proofs.Answers.{answer, refused-by, done-by}
-use Rattle.layers.proofs.Drawing.{Clear, clear, words-accepted, words-tape}
-
--- The words are those of an accepted tape.
-pub sound : {s ws ws′ : List ℕ} {q : Checked} → Opens s ws ws′ q → readTape s .number ≡ 0
-    → Sound (take (q .clauses) ws′)
-sound {s} o e = record { slots = readTape s .tape .slots; accepted = words-accepted o e }
+use Rattle.layers.proofs.Drawing.{Clear, clear}
 
 -- The lines as the code has them.
 pub tile-lines : (t : Bool) (s : List ℕ) (g : D.Grid) (n m : ℕ) {a b c d : ℕ} → a ≡ readTape s .number
@@ -56,19 +50,13 @@ module _ (t : Bool) (s : List ℕ) (d : Grid) (o w : List ℕ) where
       record { answer = refused-by s lines refl e k h p; pixels = rw z; work = rw z }
 
   -- Done: the walk's picture and count, and the work buffer cleared.
-  pub tiles-done : {o′ w′ ws ws′ : List ℕ} {q : Checked} {k : ℕ} {r : Answer} → r ≡ answer 0 0 k
-      → tileFault t s (gridIn d t) (length o) (length w) ≡ 0 → Opens s ws ws′ q
-      → Walked t (take (q .clauses) ws′) d o′ k → w′ ≡ replicate (length w) 0 → TilesSay t s d o o′ w w′ r
-  tiles-done e z f v u =
-      let g = gridIn d t in
-      let lines = tileLines t s g (length o) (length w) in
-      let i = tiles-clear t s g (length o) (length w) z .drawing .read in
-      let a = words-accepted f i in
-      let m = words-tape f i in
-      let n = readTape s .tape .slots in
-      let y = eq-eqb (tileFault t s g (length o) (length w)) 0 z in
+  pub tiles-done : {o′ w′ : List ℕ} {k : ℕ} {r : Answer} → r ≡ answer 0 0 k
+      → tileFault t s (gridIn d t) (length o) (length w) ≡ 0 → TilesOf t s (gridIn d t) o′ k
+      → w′ ≡ replicate (length w) 0 → TilesSay t s d o o′ w w′ r
+  tiles-done e z v u =
+      let y = eq-eqb (tileFault t s (gridIn d t) (length o) (length w)) 0 z in
       record {
-        answer = done-by lines e z (v .count n a ∙ ap (λ b. D.walked b g .clauses) m);
-        pixels = v .pixels n a ∙ ap (λ b. picture t g (D.walked b g .heights)) m ∙ rw y;
+        answer = done-by (tileLines t s (gridIn d t) (length o) (length w)) e z (v .count);
+        pixels = v .pixels ∙ rw y;
         work = u ∙ rw y;
       }

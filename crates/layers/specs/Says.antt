@@ -7,12 +7,9 @@ use Prim.Native.Nat.{ℕ, _*_}
 use lib.Dec.{eqb, ltb}
 use lib.ListN.{length, replicate}
 use Rattle.rules.specs.Values.{pick, firstFault, when}
-use Rattle.rules.specs.Tapes.{Got, clauseLimit, placeOf, readTape, readList, tapeBytes, listOf, allBytes}
+use Rattle.rules.specs.Tapes.{placeOf, readTape, readList, tapeBytes, listOf, allBytes}
 use Rattle.rules.specs.Drawings as D
 use Rattle.rules.specs.Pictures.{stride, picture, pictureSize, bitmapFile, heightFile}
-use Rattle.tape_check.specs.Checks.{Answers}
-use Rattle.tape_check.specs.declared.Checked.{Checked}
-use Rattle.code.specs.Unpacking.{Unpacked}
 use Rattle.picture.specs.Shapes.{gridIn}
 use Rattle.picture.specs.declared.grid.Grid.{Grid}
 use Rattle.packing.specs.Packing.{copyFault}
@@ -53,12 +50,6 @@ BitmapSays w h p o o′ r = FileSays w h (h * stride w) p (bitmapFile w h p) o o
 
 abbrev pub HeightsSay : ℕ → ℕ → List ℕ → List ℕ → List ℕ → Answer → Type 0
 HeightsSay w h p o o′ r = FileSays w h (w * h) p (heightFile w h p) o o′ r
-
--- The step that opens a tape: what it is read as, and where it is accepted its clauses as the first words.
-pub record Opens (s ws ws′ : List ℕ) (r : Checked) : Type 0 where
-  pub read : Answers r (readTape s)
-  pub words : readTape s .number ≡ 0 → Unpacked s ws ws′ (r .clauses)
-  pub room : readTape s .number ≡ 0 → length ws′ ≡ clauseLimit
 
 -- Lines 12 and 13: "picture buffer not of the exact length", n its length; "work buffer below 32,768 bytes".
 abbrev pub lengthFault : Bool → D.Grid → ℕ → ℕ

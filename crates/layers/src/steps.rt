@@ -1,16 +1,12 @@
 // The steps of a call: each check gives the number of its line in the scope paper's table, or 0. A call lists its
 // checks in the paper's order, and the first that holds is returned.
 use crate::WORK_LIMIT;
-use code::unpack::unpack_words;
 use picture::grid::Grid;
-use tape::CLAUSE_LIMIT;
-use tape_check::Checked;
-use tape_check::check_tape;
 ghost use mathlib.Core.Path.{_≡_};
 ghost use Rattle.rules.specs.Values.{firstFault};
 ghost use Rattle.rules.specs.Pictures.{pictureSize};
 ghost use Rattle.picture.specs.Shapes.{gridIn};
-ghost use Rattle.layers.specs.Says.{lengthFault, workFault, Opens};
+ghost use Rattle.layers.specs.Says.{lengthFault, workFault};
 
 pub fn first_fault(lines: &[u8]) -> u8
     ensures { λ r. ⌜ r ≡ firstFault (now (lines .entry)) ⌝ }
@@ -24,17 +20,6 @@ pub fn first_fault(lines: &[u8]) -> u8
         i += 1;
     }
     0
-}
-
-// Lines 1 to 9, and where none holds the tape's clauses as the first words.
-pub fn open_tape(tape: &[u8], words: &mut [u64; CLAUSE_LIMIT]) -> Checked
-    ensures { λ r. ⌜ Opens (now (tape .entry)) (now (words .entry)) (now (words .exit)) r ⌝ }
-{
-    let checked = check_tape(tape);
-    if checked.number == 0 {
-        unpack_words(tape, words);
-    }
-    checked
 }
 
 fn picture_length(solid: bool, grid: Grid) -> usize

@@ -13,9 +13,9 @@ use lines::put_count;
 use lines::put_refused;
 ghost use Rattle.program.specs.Says.{ProgramSays};
 
-// How much of an input there is to read: one byte more than the longest that can be drawn, 32 of a record and 10,248 of
+// How much of an input there is to read: one byte more than the longest that can be drawn, 32 of a record and 61,448 of
 // a tape. What is behind it changes nothing.
-pub const INPUT: usize = 10281;
+pub const INPUT: usize = 61481;
 
 // Room for the longest file: a solid of 128 by 128 pixels has a head of 17 bytes and two bytes a pixel.
 pub const OUTPUT: usize = 32785;

@@ -17,6 +17,7 @@ use Rattle.rules.specs.Tapes.{Tape, runFrom, valueAt, material, rangeFro
 use Rattle.rules.specs.Tapes.{without, onClause, shortFrom, lastOut, shortened, badSlot, badUnused, badConstant}
 use Rattle.rules.specs.Tapes.{badRead, clauseFault, faultFrom, readClauses, countsOk, signed4, rawIn, rawsFrom}
 use Rattle.rules.specs.Tapes.{headOk, readTape, rawsOf, readList, tapeBytes, listOf, allBytes, allIn32}
+use Rattle.rules.specs.Tapes.{headCounts, edition}
 use Rattle.rules.specs.Drawings.{Grid, solid, sampleAt, gridFault, columnFrom, rowFrom, rowsFrom, drawn, Region}
 use Rattle.rules.specs.Drawings.{region, lesser, boxOf, state, raiseRow, raiseRows, filled, rowHigh, rowsHigh}
 use Rattle.rules.specs.Drawings.{hidden, alongX, alongY, alongZ, children, fold, shortTape, onSample, visit}
@@ -177,7 +178,8 @@ pub record Computed : Type 0 where
   pub three-heights : walked (three 3) threeSolid .heights ≡ 2 ∷ []
 
 pub computed : Computed
-unfolding Nested OneOf shortAfter allBytes allIn32 listOf rawsOf readList readTape headOk countsOk rawsFrom rawIn
+unfolding Nested OneOf shortAfter allBytes allIn32 listOf rawsOf readList readTape headOk countsOk headCounts edition rawsFrom
+    rawIn
     signed4 readClauses faultFrom clauseFault badSlot badUnused badConstant badRead gridFault drawn rowsFrom rowFrom
     columnFrom partOf walked sides visit onSample fold children alongZ alongY alongX hidden rowsHigh rowHigh filled
     raiseRows raiseRow boxOf lesser sampleAt shortened lastOut shortFrom onClause isIn without reads choicesFrom

@@ -13,6 +13,7 @@ use Rattle.rules.specs.Values.{multipliedR, choiceOf}
 use Rattle.rules.specs.Tapes.{Tape, noRange, choicesFrom, reads, isIn, without, onClause, shortFrom, lastOut}
 use Rattle.rules.specs.Tapes.{rangeFrom, rangeOver, shortened, listOf, Raw, badSlot, badUnused, badConstant}
 use Rattle.rules.specs.Tapes.{badRead, clauseFault}
+use Rattle.rules.specs.Marks.{asMarked, keptBy, newMark, refined, wholeMarks, keptTape, marksOver}
 use Rattle.rules.specs.Drawings.{Grid, at, sampleAt, gridFault}
 
 -- A row of numbers: a range is its two ends, a tape is its list.
@@ -34,6 +35,9 @@ clause o d l r c = record { opcode = o; out = d; left = l; right = r; constant =
 
 abbrev pub tape : Tape → List Clause → Row
 tape t cs = record { given = listOf (t .clauses); said = listOf cs }
+
+abbrev pub marks : List ℕ → List ℕ → Row
+marks ms ns = record { given = map pos ms; said = map pos ns }
 
 abbrev pub minus : ℕ → ℤ
 minus n = negℤ (pos n)
@@ -205,12 +209,22 @@ dividing =
     ∷ (choice (faultOf 15) 5
     ∷ [])))))
 
+-- T-08's: the short tape of the marked figure by marks. Shortened again, x from 6 to 7, it stays as it is.
+abbrev pub keptForms : List Row
+keptForms =
+    let ms = marksOver five (wholeMarks (five .clauses)) (onX (pos 5) (pos 9)) in
+    marks ms (0 ∷ (0 ∷ (0 ∷ (1 ∷ (2 ∷ [])))))
+    ∷ (tape (keptTape five ms) (clause 0 2 0 0 (minus 10) ∷ (clause 4 0 2 0 (pos 0) ∷ []))
+    ∷ (marks (marksOver five ms (onX (pos 6) (pos 7))) (0 ∷ (0 ∷ (0 ∷ (1 ∷ (2 ∷ [])))))
+    ∷ []))
+
 abbrev pub rows : List Row
-rows = starred ++ worded ++ oneSlot ++ middles ++ quotients ++ dividing
+rows = starred ++ worded ++ oneSlot ++ middles ++ quotients ++ dividing ++ keptForms
 
 pub figures : map (λ r. r .given) rows ≡ map (λ r. r .said) rows
 unfolding smaller larger sum difference product square rootFrom rootOf quotient quotientR holdsZero absoluteR squareR
     rootR productR sumR differenceR negR smallerR largerR unaryRange multipliedR binaryRange rangeOf rangeFrom rangeOver
     sideBelow sideAbove choiceOf choicesFrom reads isIn without onClause shortFrom lastOut shortened listOf sampleAt
     gridFault binaryValue valueOf badSlot badUnused badConstant badRead clauseFault
+    asMarked keptBy newMark refined marksOver
 figures = refl

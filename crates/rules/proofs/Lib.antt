@@ -16,6 +16,7 @@ pub mod Runs
 pub mod Needed
 pub mod Short
 pub mod ShortAccepted
+pub mod Marks
 pub mod Visit
 pub mod Regions
 pub mod Bound
@@ -29,6 +30,7 @@ pub mod Heights
 pub mod Nested
 pub mod Tiles
 pub mod Bytes
+pub mod Editions
 pub mod RestatedValues
 pub mod RestatedTapes
 pub mod RestatedDrawings

@@ -10,6 +10,7 @@ use borrow.Author.Tests.{eqb-false}
 use Rattle.rules.specs.Values.{pick, firstOf, when}
 use Rattle.rules.specs.Tapes.{Raw, Got, placeOf, bad, isOpcode, badSlot, badUnused, badConstant, badRead}
 use Rattle.rules.specs.Tapes.{clauseFault, nat, faultFrom, readClauses, countsOk, rawsOf, readList, word, headOk}
+use Rattle.rules.specs.Tapes.{headCounts}
 use Rattle.rules.specs.Tapes.{rawsFrom, readTape}
 use Rattle.rules.proofs.Reading.{fault-here, fault-after}
 
@@ -68,6 +69,6 @@ unfolding readTape
 tape-placed s =
     unless (ltb (length s) 8) 1 _ refl
     (unless (not (headOk s)) 2 _ refl
-    (unless (not (countsOk (getD s 3 0) (word 4 s))) 3 _ refl
+    (unless (not (headCounts (getD s 2 0) (getD s 3 0) (word 4 s))) 3 _ refl
     (unless (not (eqb (length s) (8 + 10 * word 4 s))) 4 _ refl
     (clauses-placed (getD s 3 0) (rawsFrom (word 4 s) (drop 8 s))))))

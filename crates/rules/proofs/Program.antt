@@ -18,7 +18,7 @@ use Rattle.rules.specs.Values.{choiceOf}
 use Rattle.rules.specs.Tapes.{clauseLimit, Got, bad, word, two, four, runFrom, valueAt, material, rangeFrom}
 use Rattle.rules.specs.Tapes.{rangeOver, choicesFrom, reads, isIn, without, onClause, shortFrom, lastOut}
 use Rattle.rules.specs.Tapes.{shortened, badSlot, badUnused, badConstant, badRead, clauseFault, faultFrom}
-use Rattle.rules.specs.Tapes.{readClauses, countsOk, signed4, rawIn, rawsFrom, headOk, readTape}
+use Rattle.rules.specs.Tapes.{readClauses, countsOk, headCounts, edition, signed4, rawIn, rawsFrom, headOk, readTape}
 use Rattle.rules.specs.Drawings.{Grid, solid, drawn, sampleAt, gridFault, lesser, boxOf, raiseRow, raiseRows}
 use Rattle.rules.specs.Drawings.{filled, rowHigh, rowsHigh, hidden, alongX, alongY, alongZ, children, fold}
 use Rattle.rules.specs.Drawings.{onSample, visit, sides, walked}
@@ -27,7 +27,7 @@ use Rattle.rules.specs.Pictures.{bitmapFile, highFirst, heightFile}
 use Rattle.rules.specs.Program.{recordLength, gridRecord, tapeAfter, longestInput, inputLimit, recordOk, tooLarge}
 use Rattle.rules.specs.Program.{programLines, programFault, programPlace, fileOf, Output, programOf}
 use Rattle.rules.proofs.Lines.{each-line}
-use Rattle.rules.proofs.Reading.{Counts, counts-hold}
+use Rattle.rules.proofs.Reading.{Counts, counts-hold, head-counts-hold}
 use Rattle.rules.proofs.Tiles.{demand-3}
 use Rattle.rules.proofs.Example.{gridOf, threeBytes, threeFlat, threeSolid}
 
@@ -112,7 +112,7 @@ rows =
 
 pub figures : map (λ r. programOf (r .input)) rows ≡ map (λ r. r .said) rows
 unfolding programOf programFault programPlace gridRecord recordOk tooLarge fileOf heightFile highFirst readTape headOk
-    countsOk rawsFrom rawIn signed4 readClauses faultFrom clauseFault badSlot badUnused badConstant badRead gridFault
+    countsOk headCounts edition rawsFrom rawIn signed4 readClauses faultFrom clauseFault badSlot badUnused badConstant badRead gridFault
     walked sides visit onSample fold children alongZ alongY alongX hidden rowsHigh rowHigh filled raiseRows raiseRow
     boxOf lesser sampleAt shortened lastOut shortFrom onClause isIn without reads choicesFrom rangeOver rangeFrom
     material valueAt runFrom choiceOf sideAbove sideBelow rangeOf binaryRange multipliedR unaryRange largerR smallerR
@@ -124,16 +124,18 @@ figures = refl
 abbrev byHead : List ℕ → Bool → Got
 byHead s t = pick (not (headOk s)) (bad 2 0) (pick (not t) (bad 3 0) (bad 4 0))
 
-by-head : (s : List ℕ) → 8 + 10 * clauseLimit < length s → readTape s ≡ byHead s (countsOk (getD s 3 0) (word 4 s))
+by-head : (s : List ℕ) → 8 + 10 * clauseLimit < length s
+    → readTape s ≡ byHead s (headCounts (getD s 2 0) (getD s 3 0) (word 4 s))
 unfolding readTape
-by-head s h = go (countsOk (getD s 3 0) (word 4 s)) refl
+by-head s h = go (headCounts (getD s 2 0) (getD s 3 0) (word 4 s)) refl
   where
     other : {n : ℕ} → Counts n (word 4 s) → length s ≡ 8 + 10 * word 4 s → ⊥
     other c e = omega arith
 
-    go : (t : Bool) → countsOk (getD s 3 0) (word 4 s) ≡ t → readTape s ≡ byHead s t
+    go : (t : Bool) → headCounts (getD s 2 0) (getD s 3 0) (word 4 s) ≡ t → readTape s ≡ byHead s t
     go true e =
-        let differs = ne-eqb (length s) (8 + 10 * word 4 s) (other (counts-hold (getD s 3 0) (word 4 s) e)) in
+        let counts = counts-hold (getD s 3 0) (word 4 s) (head-counts-hold (getD s 2 0) (getD s 3 0) (word 4 s) e) in
+        let differs = ne-eqb (length s) (8 + 10 * word 4 s) (other counts) in
         rw (le-ltb (length s) 8 (omega arith), e, differs)
     go false e = rw (le-ltb (length s) 8 (omega arith), e)
 

@@ -1,26 +1,25 @@
 -- Tapes as the paper of formal statements has them, word for word, and each equal to the definition used here. Where
 -- text and parts are the same nothing is repeated: `isIn`, `lastOut`, the tests and records of a clause, `rawsFrom`,
 -- `rawsOf`, `listOf`. One test is no longer the paper's own: `isOpcode` takes opcode 14 too, and what is read here is
--- read with it. Values at a sample are the paper's for tapes with no opcode above 13. Runs over ranges and what rests
--- on them are no longer the paper's own, and not here.
-use mathlib.Core.Path.{_≡_, refl, sym, ap, ap₂, subst₃, _∙_}
+-- read with it. Values at a sample are the paper's for tapes with no opcode above 13. Runs over ranges, and the limits
+-- and editions of a tape, with what rests on them, are no longer the paper's own, and not here; `Editions` has the
+-- reader of its limits.
+use mathlib.Core.Path.{_≡_, refl, sym, ap, ap₂, _∙_}
 use mathlib.Core.Bool.{Bool, true, false, _&&_, _||_, not}
 use mathlib.Core.List.{List, [], _∷_, _++_, map, append-nil, append-assoc}
 use lib.IntN.{ℤ, pos}
-use Prim.Native.Nat.{ℕ, zero, suc, _+_, _*_, _%_, _≤_}
+use Prim.Native.Nat.{ℕ, zero, suc, _+_, _≤_}
 use native.Mathlib.Omega.{arith}
-use lib.Dec.{eqb, ltb, leb}
-use lib.ListN.{length, getD, set, drop, replicate}
+use lib.Dec.{eqb, leb}
+use lib.ListN.{length, getD, set, replicate}
 use borrow.Author.Tests.{leb-true, leb-false, le-leb, lt-leb}
 use Rattle.rules.specs.Values
 use Rattle.rules.specs.Tapes
 use Rattle.rules.specs.Values.{pick, firstOf, when, isNeg, Clause, Sample, Range}
 use Rattle.rules.specs.Tapes.{Tape, noRange, isIn, Kept, kept, copyOf, Raw, isSlot, isZero, isOpcode}
-use Rattle.rules.specs.Tapes.{nat, leastWord, usesLeft, usesRight, clauseOf, Got, bad, good, word, rawsFrom}
-use Rattle.rules.specs.Tapes.{headOk, rawsOf, two, clauseBytes, listOf, allBytes, allIn32}
+use Rattle.rules.specs.Tapes.{nat, leastWord, usesLeft, usesRight, clauseOf, Got, bad, good}
 use Rattle.rules.proofs.RestatedValues.{valueOf, value-same}
 use Rattle.rules.proofs.Reading.{fault-here, fault-after}
-use Rattle.rules.proofs.Bytes.{both-ways}
 
 abbrev pub count : {A : Type 0} → List A → ℕ
 count [] = 0
@@ -256,78 +255,5 @@ pub clauses-same : (n : ℕ) (rs : List Raw) → clausesFrom n 0 [] [] rs ≡ Ta
 unfolding Tapes.readClauses
 clauses-same n rs = clauses-from-same n 0 [] [] rs
 
--- Bytes.
-abbrev pub countsOk : ℕ → ℕ → Bool
-countsOk n k = leb 1 n && (leb n 64 && (leb 1 k && leb k 1024))
-
-pub counts-same : (n k : ℕ) → countsOk n k ≡ Tapes.countsOk n k
-unfolding Tapes.countsOk
-counts-same n k = refl
-
-abbrev pub readTape : List ℕ → Got
-readTape s =
-    let n = getD s 3 0 in
-    let k = word 4 s in
-    pick (ltb (length s) 8) (bad 1 0)
-    (pick (not (headOk s)) (bad 2 0)
-    (pick (not (countsOk n k)) (bad 3 0)
-    (pick (not (eqb (length s) (8 + 10 * k))) (bad 4 0) (clausesFrom n 0 [] [] (rawsFrom k (drop 8 s))))))
-
-pub read-tape-same : (s : List ℕ) → readTape s ≡ Tapes.readTape s
-unfolding Tapes.readTape Tapes.countsOk
-read-tape-same s = cc (clauses-same (getD s 3 0) (rawsFrom (word 4 s) (drop 8 s)))
-
--- Lists of five numbers a clause.
-abbrev pub countZ : List ℤ → ℕ
-countZ zs = count zs
-
-abbrev pub countRaw : List Raw → ℕ
-countRaw rs = count rs
-
-abbrev pub readList : ℕ → List ℤ → Got
-readList n zs =
-    pick (not (eqb (countZ zs % 5) 0)) (bad 4 0)
-    (pick (not (countsOk n (countRaw (rawsOf zs)))) (bad 3 0) (clausesFrom n 0 [] [] (rawsOf zs)))
-
-pub read-list-same : (n : ℕ) (zs : List ℤ) → readList n zs ≡ Tapes.readList n zs
-unfolding Tapes.readList Tapes.countsOk
-read-list-same n zs = cc (count-same zs, count-same (rawsOf zs), clauses-same n (rawsOf zs))
-
--- Written.
 abbrev pub countCl : List Clause → ℕ
 countCl cs = count cs
-
-abbrev pub tapeBytes : Tape → List ℕ
-tapeBytes t =
-    84 ∷ (80 ∷ (1 ∷ (t .slots ∷ (two (countCl (t .clauses)) ++ (0 ∷ (0 ∷ clauseBytes (t .clauses)))))))
-
-pub tape-bytes-same : (t : Tape) → tapeBytes t ≡ Tapes.tapeBytes t
-unfolding Tapes.tapeBytes
-tape-bytes-same t = rw (count-same (t .clauses))
-
-pub record Both-ways : Type 0 where
-  pub by-list : (n : ℕ) (zs : List ℤ) → allIn32 zs ≡ true → readList n zs .number ≡ 0
-      → let t = readList n zs .tape in (readTape (tapeBytes t) ≡ readList n zs) × (listOf (t .clauses) ≡ zs)
-  pub by-tape : (s : List ℕ) → allBytes s ≡ true → readTape s .number ≡ 0
-      → let t = readTape s .tape in (tapeBytes t ≡ s) × (readList (t .slots) (listOf (t .clauses)) ≡ readTape s)
-
--- The two ways, of any readings and any writing.
-abbrev ListWay : (List ℕ → Got) → (ℕ → List ℤ → Got) → (Tape → List ℕ) → Type 0
-ListWay tape list bytes =
-    (n : ℕ) (zs : List ℤ) → allIn32 zs ≡ true → list n zs .number ≡ 0
-    → let t = list n zs .tape in (tape (bytes t) ≡ list n zs) × (listOf (t .clauses) ≡ zs)
-
-abbrev TapeWay : (List ℕ → Got) → (ℕ → List ℤ → Got) → (Tape → List ℕ) → Type 0
-TapeWay tape list bytes =
-    (s : List ℕ) → allBytes s ≡ true → tape s .number ≡ 0
-    → let t = tape s .tape in (bytes t ≡ s) × (list (t .slots) (listOf (t .clauses)) ≡ tape s)
-
-pub both-ways-restated : Both-ways
-both-ways-restated =
-    let p : Tapes.readTape ≡ readTape = λ i s. sym (read-tape-same s) i in
-    let q : Tapes.readList ≡ readList = λ i n zs. sym (read-list-same n zs) i in
-    let r : Tapes.tapeBytes ≡ tapeBytes = λ i t. sym (tape-bytes-same t) i in
-    record {
-      by-list = subst₃ ListWay p q r (both-ways .by-list);
-      by-tape = subst₃ TapeWay p q r (both-ways .by-tape);
-    }

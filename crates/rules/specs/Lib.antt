@@ -2,6 +2,7 @@
 -- drawings, pictures and their files, the program, and the demands.
 pub mod Values
 pub mod Tapes
+pub mod Marks
 pub mod Accepted
 pub mod Drawings
 pub mod Pictures

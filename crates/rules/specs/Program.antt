@@ -31,7 +31,7 @@ gridRecord s =
 abbrev pub tapeAfter : List ℕ → List ℕ
 tapeAfter s = drop recordLength s
 
--- No tape is longer than one of 1,024 clauses. One byte more than the longest input is enough to read of any: what is
+-- No tape is longer than one of 6,144 clauses. One byte more than the longest input is enough to read of any: what is
 -- longer is refused whatever follows.
 abbrev pub longestInput : ℕ
 longestInput = recordLength + (8 + 10 * clauseLimit)

@@ -1,19 +1,26 @@
 // The two forms of a tape, its bytes and its list: a clause read from each and written to each.
 pub mod bytes;
+pub mod edition;
 pub mod list;
 pub mod write;
 
-// The limits of a tape, and the last row of the table of opcodes.
-pub const SLOT_LIMIT: usize = 64;
+// The limits of a tape, of one of edition 01, and the last row of the table of opcodes.
+pub const SLOT_LIMIT: usize = 128;
 
-pub const CLAUSE_LIMIT: usize = 1024;
+pub const CLAUSE_LIMIT: usize = 6144;
+
+pub const FIRST_SLOTS: usize = 64;
+
+pub const FIRST_CLAUSES: usize = 1024;
 
 pub const LAST_OPCODE: i32 = 14;
 
-// A tape's bytes: the head, with the edition in it, and each clause. A list's numbers to a clause.
+// A tape's bytes: the head, with its edition, and each clause. A list's numbers to a clause.
 pub const HEAD_BYTES: usize = 8;
 
-pub const EDITION: u8 = 1;
+pub const FIRST_EDITION: u8 = 1;
+
+pub const SECOND_EDITION: u8 = 2;
 
 pub const CLAUSE_BYTES: usize = 10;
 

@@ -1,7 +1,7 @@
 // A tape's bytes, written: marks, little-endian numbers, the head, a clause. Each call stores a run of bytes from `at`
 // on and leaves every other byte.
-use crate::EDITION;
 use crate::Fields;
+use crate::edition::edition_of;
 ghost use mathlib.Core.Path.{_≡_};
 ghost use mathlib.Core.Bool.{true};
 ghost use mathlib.Core.List.{[], _∷_};
@@ -58,8 +58,9 @@ pub fn put_head(out: &mut [u8], slots: u32, count: u32)
     requires { do ⌜ (8 ≤ (← ⟦out.len()⟧)) × (slots < 256) ⌝ }
     ensures { λ _. ⌜ now (out .exit) ≡ sets (now (out .entry)) 0 (headBytes slots count) ⌝ }
 {
+    let edition = edition_of(slots, count);
     put_mark(out, 0, b"TP");
-    put_pair(out, 2, EDITION, slots as u8);
+    put_pair(out, 2, edition, slots as u8);
     put_word(out, 4, count);
     put_pair(out, 6, 0, 0)
 }

@@ -14,6 +14,7 @@ use borrow.Author.Tests.{eq-eqb, ne-eqb}
 use Rattle.rules.specs.Tapes.{Raw, Fault, nat, slotLimit, isSlot, clauseFault, faultFrom, readClauses, clauseOf}
 use Rattle.rules.proofs.Reading.{passed, passed-tests, fault-here, fault-after}
 use Rattle.slotset.specs.SlotSets.{IsSet}
+use Rattle.slotset.specs.declared.SlotSet.{SlotSet}
 use Rattle.tape.specs.declared.Fields.{Fields}
 use Rattle.tape.specs.Clauses.{rawOf}
 use Rattle.tape.proofs.FieldValues.{kept, small, slot-cast, slot-below, slot-nat, wider}
@@ -23,12 +24,12 @@ use Rattle.tape_check.specs.Checks.{Answers}
 abbrev fault : ℕ → ℕ → Fault
 fault x p = record { number = x; place = p }
 
-pub record Walk (n i w : ℕ) (rest whole : List Raw) : Type 0 where
+pub record Walk (n i : ℕ) (w : SlotSet) (rest whole : List Raw) : Type 0 where
   pub written : List ℕ
   pub holds : IsSet w written
   pub same : faultFrom n i written rest ≡ faultFrom n 0 [] whole
 
-pub walk-to : {n : ℕ} {i j w : ℕ} {rest rest′ whole : List Raw} → i ≡ j → rest ≡ rest′ → Walk n i w rest whole
+pub walk-to : {n : ℕ} {i j : ℕ} {w : SlotSet} {rest rest′ whole : List Raw} → i ≡ j → rest ≡ rest′ → Walk n i w rest whole
     → Walk n j w rest′ whole
 walk-to {n} p q k =
     record {
@@ -38,7 +39,7 @@ walk-to {n} p q k =
     }
 
 module _ (n : ℕ) (whole : List Raw) where
-  pub start : (w : ℕ) → IsSet w [] → Walk n 0 w whole whole
+  pub start : (w : SlotSet) → IsSet w [] → Walk n 0 w whole whole
   start w e = record { written = []; holds = e; same = refl }
 
   answers-fault : (x p : ℕ) → (x ≡ 0 → ⊥) → faultFrom n 0 [] whole ≡ fault x p
@@ -52,7 +53,7 @@ module _ (n : ℕ) (whole : List Raw) where
   answers-none k h e =
       rw e (record { number = refl; place = refl; slots = refl; clauses = h ∙ sym (length-map whole clauseOf) })
 
-  module _ (i w : ℕ) (f : Fields) (rest : List Raw) (k : Walk n i w (rawOf f ∷ rest) whole) (x : ℕ)
+  module _ (i : ℕ) (w : SlotSet) (f : Fields) (rest : List Raw) (k : Walk n i w (rawOf f ∷ rest) whole) (x : ℕ)
       (e : (ns : List ℕ) → IsSet w ns → x ≡ clauseFault n ns (rawOf f)) where
     is-fault : clauseFault n (k .written) (rawOf f) ≡ x
     is-fault = sym (e (k .written) (k .holds))
@@ -77,7 +78,7 @@ module _ (n : ℕ) (whole : List Raw) where
       pub out-below : natAbs (kept (f .out)) < slotLimit
       out-below = slot-below slotLimit (f .out) (record { sfits = s }) out-slot
 
-      pub next : (v : ℕ) → ((ns : List ℕ) → IsSet w ns → IsSet v (natAbs (kept (f .out)) ∷ ns))
+      pub next : (v : SlotSet) → ((ns : List ℕ) → IsSet w ns → IsSet v (natAbs (kept (f .out)) ∷ ns))
           → Walk n (suc i) v rest whole
       next v g =
           record {
@@ -88,7 +89,7 @@ module _ (n : ℕ) (whole : List Raw) where
           }
 
   -- No clause is left.
-  pub done : (i w k : ℕ) → Walk n i w [] whole → k ≡ length whole
+  pub done : (i : ℕ) (w : SlotSet) (k : ℕ) → Walk n i w [] whole → k ≡ length whole
       → Answers (record { number = 0; place = 0; slots = n; clauses = k }) (readClauses n whole)
   unfolding faultFrom
   done i w k v h = answers-none k h (sym (v .same))

@@ -7,7 +7,8 @@ use lib.Dec.{eqb}
 use lib.IntN.{ℤ}
 use lib.ListN.{length, getD, drop}
 use borrow.Author.Tests.{eq-eqb, ne-eqb, lt-ltb, le-ltb}
-use Rattle.rules.specs.Tapes.{Got, bad, countsOk, readClauses, rawsOf, readList, word, headOk, rawsFrom, readTape}
+use Rattle.rules.specs.Tapes.{Got, bad, countsOk, headCounts, readClauses, rawsOf, readList, word}
+use Rattle.rules.specs.Tapes.{isEdition, headOk, rawsFrom, readTape}
 use Rattle.tape_check.specs.declared.Checked.{Checked}
 use Rattle.tape.specs.Clauses.{marked}
 use Rattle.tape_check.specs.Checks.{Answers}
@@ -33,10 +34,10 @@ module _ (n : ℕ) (zs : List ℤ) (r : Checked) where
     unfolding readList
     list-on e a = rw (h, raws-length zs, e) a
 
-pub head-is : (s : List ℕ) (m : Bool) → m ≡ marked 0 s (84 ∷ (80 ∷ []))
-    → (m && (eqb (getD s 2 0) 1 && (eqb (getD s 6 0) 0 && eqb (getD s 7 0) 0))) ≡ headOk s
+pub head-is : (s : List ℕ) (m t : Bool) → m ≡ marked 0 s (84 ∷ (80 ∷ [])) → t ≡ isEdition (getD s 2 0)
+    → (m && (t && (eqb (getD s 6 0) 0 && eqb (getD s 7 0) 0))) ≡ headOk s
 unfolding headOk
-head-is s m e = rw e (and-assoc (eqb (getD s 0 0) 84) (eqb (getD s 1 0) 80) _)
+head-is s m t e k = rw (e, k) (and-assoc (eqb (getD s 0 0) 84) (eqb (getD s 1 0) 80) _)
 
 module _ (s : List ℕ) (r : Checked) where
   pub tape-1 : length s < 8 → r ≡ refusal 1 → Answers r (readTape s)
@@ -49,11 +50,11 @@ module _ (s : List ℕ) (r : Checked) where
     tape-2 h q = refuses 2 (readTape s) r (rw (le-ltb (length s) 8 l, h)) q
 
     module _ (h : headOk s ≡ true) (n k : ℕ) (a : n ≡ getD s 3 0) (b : k ≡ word 4 s) where
-      pub tape-3 : countsOk n k ≡ false → r ≡ refusal 3 → Answers r (readTape s)
+      pub tape-3 : headCounts (getD s 2 0) n k ≡ false → r ≡ refusal 3 → Answers r (readTape s)
       unfolding readTape
       tape-3 e q = refuses 3 (readTape s) r (rw (le-ltb (length s) 8 l, h, ← a, ← b, e)) q
 
-      module _ (e : countsOk n k ≡ true) where
+      module _ (e : headCounts (getD s 2 0) n k ≡ true) where
         pub tape-4 : (length s ≡ 8 + 10 * k → ⊥) → r ≡ refusal 4 → Answers r (readTape s)
         unfolding readTape
         tape-4 d q =

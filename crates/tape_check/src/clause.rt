@@ -1,4 +1,5 @@
 // Lines 5 to 9 of the refusals at one clause, as it is given in a list or in bytes.
+use slotset::SlotSet;
 use slotset::has;
 use tape::Fields;
 use tape::LAST_OPCODE;
@@ -82,7 +83,7 @@ fn bad_constant(f: Fields) -> bool
 }
 
 // A slot is read that no earlier clause wrote.
-fn unwritten(written: u64, uses: bool, slot: i32) -> bool
+fn unwritten(written: SlotSet, uses: bool, slot: i32) -> bool
     requires { ⌜ (uses ≡ true → isSlot slotLimit slot ≡ true) ⌝ }
     ensures { λ r. ⌜ ((ns : List ℕ) → IsSet written ns → r ≡ (uses && not (isIn (nat slot) ns))) ⌝ }
 {
@@ -92,7 +93,7 @@ fn unwritten(written: u64, uses: bool, slot: i32) -> bool
     false
 }
 
-fn bad_read(slots: u32, written: u64, f: Fields) -> bool
+fn bad_read(slots: u32, written: SlotSet, f: Fields) -> bool
     requires { ⌜ slots ≤ slotLimit ⌝ }
     requires { ⌜ badSlot slots (rawOf f) ≡ false ⌝ }
     ensures { λ r. ⌜ ((ns : List ℕ) → IsSet written ns → r ≡ badRead ns (rawOf f)) ⌝ }
@@ -103,7 +104,7 @@ fn bad_read(slots: u32, written: u64, f: Fields) -> bool
 }
 
 // Lines 5 to 9 of the refusals at one clause, given the slots that earlier clauses wrote.
-pub fn clause_fault(slots: u32, written: u64, f: Fields) -> u8
+pub fn clause_fault(slots: u32, written: SlotSet, f: Fields) -> u8
     requires { ⌜ slots ≤ slotLimit ⌝ }
     ensures { λ r. ⌜ ((ns : List ℕ) → IsSet written ns → r ≡ clauseFault slots ns (rawOf f)) ⌝ }
 {

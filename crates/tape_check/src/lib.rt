@@ -7,18 +7,19 @@ use slotset::with;
 use tape::CLAUSE_BYTES;
 use tape::CLAUSE_LIMIT;
 use tape::CLAUSE_NUMBERS;
-use tape::EDITION;
 use tape::HEAD_BYTES;
 use tape::SLOT_LIMIT;
 use tape::bytes::byte_at;
 use tape::bytes::fields_in;
 use tape::bytes::has_mark;
 use tape::bytes::word_at;
+use tape::edition::edition_of;
+use tape::edition::is_edition;
 use tape::list::fields_of;
 ghost use mathlib.Core.Path.{_≡_};
 ghost use Prim.Native.Nat.{_+_, _*_, _≤_};
 ghost use lib.ListN.{drop};
-ghost use Rattle.rules.specs.Tapes.{slotLimit, clauseLimit, countsOk, rawsOf, readClauses, readList};
+ghost use Rattle.rules.specs.Tapes.{slotLimit, clauseLimit, countsOk, headCounts, rawsOf, readClauses, readList};
 ghost use Rattle.rules.specs.Tapes.{headOk, rawsFrom, readTape};
 ghost use Rattle.tape_check.specs.Checks.{Answers};
 
@@ -88,7 +89,7 @@ fn head_ok(s: &[u8]) -> bool
     requires { do ⌜ 8 ≤ (← ⟦s.len()⟧) ⌝ }
     ensures { λ r. ⌜ r ≡ headOk (now (s .entry)) ⌝ }
 {
-    has_mark(s, 0, b"TP") & ((s[2] == EDITION) & ((s[6] == 0) & (s[7] == 0)))
+    has_mark(s, 0, b"TP") & (is_edition(s[2]) & ((s[6] == 0) & (s[7] == 0)))
 }
 
 fn tape_clauses(slots: u32, tape: &[u8], count: u32) -> Checked
@@ -114,6 +115,13 @@ fn tape_clauses(slots: u32, tape: &[u8], count: u32) -> Checked
     }
 }
 
+// Line 3 of a head: its counts, and its edition, which is that of the counts.
+fn head_counts(edition: u8, slots: u32, clauses: u32) -> bool
+    ensures { λ r. ⌜ r ≡ headCounts edition slots clauses ⌝ }
+{
+    counts_ok(slots, clauses as usize) & (edition == edition_of(slots, clauses))
+}
+
 // Refusals 1 to 4, then 5 to 9 clause by clause, of a lent tape.
 pub fn check_tape(tape: &[u8]) -> Checked
     ensures { λ r. ⌜ Answers r (readTape (now (tape .entry))) ⌝ }
@@ -126,7 +134,7 @@ pub fn check_tape(tape: &[u8]) -> Checked
     }
     let slots = byte_at(tape, 3);
     let count = word_at(tape, 4);
-    if !counts_ok(slots, count as usize) {
+    if !head_counts(tape[2], slots, count) {
         return refused(3, 0);
     }
     if tape.len() != HEAD_BYTES + CLAUSE_BYTES * count as usize {

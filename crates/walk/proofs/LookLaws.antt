@@ -15,14 +15,17 @@ use Rattle.rules.proofs.Short.{short-length}
 use Rattle.rules.proofs.ShortAccepted.{short-accepted}
 use Rattle.code.specs.Words.{tapeIn, Runnable}
 use Rattle.code.specs.Runs.{Fit, Bounded}
-use Rattle.code.specs.Shortening.{Shortened}
-use Rattle.code.proofs.WordTapes.{words-run, words-runnable, length-clauses, short-tape}
+use Rattle.code.proofs.WordTapes.{words-run, words-runnable, length-clauses}
+use Rattle.shortening.specs.Kept.{Chosen, Cut}
+use Rattle.shortening.proofs.ChoiceLaws.{choices-chosen}
+use Rattle.shortening.proofs.KeptLaws.{cut-kept}
+use Rattle.shortening.proofs.CutLaws.{short-tape}
 use Rattle.picture.specs.Shapes.{gridIn}
 use Rattle.picture.specs.declared.grid.Grid.{Grid}
 use Rattle.walk.specs.Cells.{CellOf, regionIn, CellBox}
 use Rattle.walk.specs.Draws.{Draws, Fills, Hidden}
 use Rattle.walk.specs.Verdicts.{IsFull, IsEmpty, IsMixed, Judged}
-use Rattle.walk.specs.Walks.{Sound, Shown, Visits, Folds, Finished, Opened, Looked}
+use Rattle.walk.specs.Walks.{Sound, Level, Shown, Visits, Folds, Finished, Opened, Looked}
 use Rattle.walk.specs.declared.cell.Cell.{Cell}
 use Rattle.walk.specs.declared.look.Seen.{Seen}
 use Rattle.walk.specs.declared.look.Seen.the-variants.{Done, Open}
@@ -37,6 +40,10 @@ fit-of {n} {ws} a = record { slots = a .slots; all = words-run n ws a }
 
 pub sound-runs : {ws : List ℕ} → Sound ws → Runnable ws
 sound-runs {ws} s = words-runnable (s .slots) ws (s .accepted)
+
+-- The choices of a run over ranges fall on minima and maxima alone.
+pub run-chosen : {ws hs hs′ : List ℕ} {b : Box} {x : Range} → Sound ws → Bounded ws b hs hs′ x → Chosen ws hs′
+run-chosen {ws} {hs} {hs′} {b} s v = choices-chosen (s .slots) ws hs′ b (v .choices (s .slots) (fit-of (s .accepted)))
 
 pub sound-length : {ws : List ℕ} → Sound ws → length ws ≤ clauseLimit
 sound-length {ws} s = omega (arith, s .accepted .clauses, length-clauses ws)
@@ -91,28 +98,31 @@ module _ (isSolid : Bool) {ws : List ℕ} {grid : Grid} {c : Cell} {b hs hs′ :
         bound = omega arith;
       }
 
-  pub opened : {next next′ : List ℕ} {start : ℕ} → IsMixed x → Shortened ws hs′ next next′ start
-      → length next′ ≡ length next
-      → Opened isSolid ws grid (regionIn c) b b next′ start
-  opened {next} {next′} {start} j s h =
+  pub opened : {whole qs hs″ next ps : List ℕ} {base start : ℕ} → IsMixed x → Cut whole ws qs hs′ base hs″ next ps start
+      → Opened isSolid whole ws qs grid (regionIn c) b b hs″ next ps start
+  opened j s =
       record {
         same = refl;
         seen = e;
         cut = record {
           range = λ n a. subst IsMixed (range-of n a) j;
-          start = rw h (s .within);
-          short = λ n a. short-tape n ws hs′ next next′ start _ (over-region .choices n a) s;
+          start = s .within;
+          short = λ n a. short-tape n _ (over-region .choices n a) s;
         };
+        base = _;
+        choices = hs′;
+        by-cut = s;
       }
 
 -- What the look says, once it is known whether the region is done.
-module _ (isSolid : Bool) (ws : List ℕ) (grid : Grid) (r : Region) (b b′ next : List ℕ) {v : Seen}
-    (j : Looked isSolid ws grid r b b′ next v) where
+module _ (isSolid : Bool) (whole ws qs : List ℕ) (grid : Grid) (r : Region) (b b′ work next ps : List ℕ)
+    {v : Seen}
+    (j : Looked isSolid whole ws qs grid r b b′ work next ps v) where
   pub done-of : {c : ℕ} → v ≡ Done c → Finished isSolid ws grid r b b′ c
-  done-of e = subst (λ u. Looked isSolid ws grid r b b′ next u) e j
+  done-of e = subst (λ u. Looked isSolid whole ws qs grid r b b′ work next ps u) e j
 
-  pub open-of : {m : ℕ} → v ≡ Open m → Opened isSolid ws grid r b b′ next m
-  open-of e = subst (λ u. Looked isSolid ws grid r b b′ next u) e j
+  pub open-of : {m : ℕ} → v ≡ Open m → Opened isSolid whole ws qs grid r b b′ work next ps m
+  open-of e = subst (λ u. Looked isSolid whole ws qs grid r b b′ work next ps u) e j
 
 -- Done without its children: at most one run is counted.
 pub done-visits : {isSolid : Bool} {ws : List ℕ} {grid : Grid} {q r : Region} {b b′ : List ℕ} {c : ℕ} (k n : ℕ)
@@ -128,8 +138,9 @@ lent-words start next = take-all (length next - start) (drop start next) (rw len
 
 -- After a cut: the short words are sound and no more than the region's, and visiting the children with them is the rest
 -- of the visit. If at most k runs are counted of the children, at most k + 1 are of the region.
-module _ {isSolid : Bool} {ws : List ℕ} {grid : Grid} {q : Region} {b b₁ next : List ℕ} {start : ℕ} (s : Sound ws)
-    (o : Opened isSolid ws grid q b b₁ next start) where
+module _ {isSolid : Bool} {whole ws qs : List ℕ} {grid : Grid} {q : Region} {b b₁ work next ps : List ℕ}
+    {start : ℕ} (s : Sound ws)
+    (o : Opened isSolid whole ws qs grid q b b₁ work next ps start) where
   short-again : (n : ℕ) → Accepted (tapeIn n ws) → Accepted (tapeIn n (drop start next))
   short-again n a =
       subst Accepted (sym (o .cut .short n (fit-of a))) (short-accepted (tapeIn n ws) a (boxOf (gridIn grid isSolid) q))
@@ -137,6 +148,9 @@ module _ {isSolid : Bool} {ws : List ℕ} {grid : Grid} {q : Region} {b b₁ nex
   pub open-sound : Sound (take (length next - start) (drop start next))
   open-sound =
       rw (lent-words start next) (record { slots = s .slots; accepted = short-again (s .slots) (s .accepted) })
+
+  pub open-level : Level whole (take (length next - start) (drop start next)) (take (length ps - start) (drop start ps))
+  open-level = record { sound = open-sound; kept = rw (lent-words start next, lent-words start ps) (cut-kept (o .by-cut)) }
 
   short-fewer : length (drop start next) ≤ length ws
   short-fewer =
@@ -175,11 +189,12 @@ module _ {isSolid : Bool} {ws : List ℕ} {grid : Grid} {q : Region} {b b₁ nex
   open-visits n ns k e h f = rw (← e) (cut-visits n ns k h (rw (lent-words start next) at f))
 
 -- The same of a cell whose children are l layers, or l rows, of side n.
-module _ {ws : List ℕ} {grid : Grid} {cell : Cell} {r : Region} {b b₁ next : List ℕ} {start : ℕ} (n l : ℕ)
+module _ {whole ws qs : List ℕ} {grid : Grid} {cell : Cell} {r : Region} {b b₁ work next ps : List ℕ} {start : ℕ}
+    (n l : ℕ)
     (s : Sound ws)
     (some : 1 ≤ n) (some-part : 1 ≤ l) (parts : r .long ≡ l * n) where
   pub open-layers : CellOf (grid .depth) grid r cell → gridFault true (gridIn grid true) ≡ 0
-      → Opened true ws grid (regionIn cell) b b₁ next start → (ns : List ℕ) (k : ℕ) {c : ℕ} {b′ : List ℕ}
+      → Opened true whole ws qs grid (regionIn cell) b b₁ work next ps start → (ns : List ℕ) (k : ℕ) {c : ℕ} {b′ : List ℕ}
       → Folds true k (take (length next - start) (drop start next)) grid ns
       (alongZ l l (cell .x) (cell .y) (cell .z) n (cell .xend) (cell .yend) (cell .zend)) b₁ b′ c
       → Visits true (suc k) ws grid (n ∷ ns) r b b′ (length ws + c)
@@ -187,7 +202,7 @@ module _ {ws : List ℕ} {grid : Grid} {cell : Cell} {r : Region} {b b₁ next :
       open-visits s o n ns k (d .same)
       (cell-layers grid cell n l some some-part (ap (λ (q : Region). q .long) (d .same) ∙ parts) (d .ok) e) f
 
-  pub open-rows : CellOf 1 grid r cell → Opened false ws grid (regionIn cell) b b₁ next start → (ns : List ℕ) (k : ℕ)
+  pub open-rows : CellOf 1 grid r cell → Opened false whole ws qs grid (regionIn cell) b b₁ work next ps start → (ns : List ℕ) (k : ℕ)
       {c : ℕ} {b′ : List ℕ}
       → Folds false k (take (length next - start) (drop start next)) grid ns
       (alongY l l (cell .x) (cell .y) 0 n (cell .xend) (cell .yend)) b₁ b′ c

@@ -3,12 +3,13 @@
 use mathlib.Core.Path.{_≡_}
 use mathlib.Core.Bool.{Bool, true, false}
 use mathlib.Core.List.{List, _∷_}
-use Prim.Native.Nat.{ℕ, _*_, _≤_}
+use Prim.Native.Nat.{ℕ, _+_, _*_, _≤_}
 use lib.ListN.{length}
 use Rattle.rules.specs.Drawings.{Region, boxOf, fold, visit, walked}
 use Rattle.rules.specs.Pictures.{picture}
 use Rattle.rules.specs.Accepted.{Accepted}
 use Rattle.code.specs.Words.{tapeIn}
+use Rattle.shortening.specs.Kept.{Kept, Cut, markRoom}
 use Rattle.picture.specs.Bits.{Shows}
 use Rattle.picture.specs.Shapes.{gridIn}
 use Rattle.picture.specs.declared.grid.Grid.{Grid}
@@ -21,6 +22,15 @@ use Rattle.walk.specs.declared.look.Seen.the-variants.{Done, Open}
 pub record Sound (ws : List ℕ) : Type 0 where
   pub slots : ℕ
   pub accepted : Accepted (tapeIn slots ws)
+
+-- The words and places of one level of the walk: an accepted tape, kept of the words of the whole tape.
+pub record Level (whole ws places : List ℕ) : Type 0 where
+  pub sound : Sound ws
+  pub kept : Kept whole ws places
+
+-- The work buffer has room for the choices and for the marks of k levels.
+abbrev pub MarksFit : ℕ → List ℕ → List ℕ → Type 0
+MarksFit k whole work = length whole + k * markRoom (length whole) ≤ length work
 
 -- A picture's list shows heights: a solid's are the heights, a flat one's bytes hold a bit for each.
 abbrev pub Shown : Bool → Grid → List ℕ → List ℕ → Type 0
@@ -47,16 +57,22 @@ pub record Finished (isSolid : Bool) (ws : List ℕ) (grid : Grid) (r : Region) 
       → Draws (Shown isSolid grid) (visit (n ∷ ns) (tapeIn m ws) (gridIn grid isSolid) r) b b′ c
   pub bound : c ≤ length ws
 
--- A region that is seen and cut, before its children; the words from start on are its short tape's.
-pub record Opened (isSolid : Bool) (ws : List ℕ) (grid : Grid) (r : Region) (b b′ next : List ℕ)
-    (start : ℕ) : Type 0 where
+-- A region that is seen and cut, before its children; the words from start on are its short tape's, and their places
+-- beside them. The short tape is kept as marks in the work buffer, from some base on: `by-cut` has their bytes.
+pub record Opened (isSolid : Bool) (whole ws qs : List ℕ) (grid : Grid) (r : Region)
+    (b b′ work next places : List ℕ) (start : ℕ) : Type 0 where
   pub same : b′ ≡ b
   pub seen : Hidden (Shown isSolid grid) (gridIn grid isSolid) r b false
   pub cut : IsCut ws (boxOf (gridIn grid isSolid) r) next start
+  pub base : ℕ
+  pub choices : List ℕ
+  pub by-cut : Cut whole ws qs choices base work next places start
 
-abbrev pub Looked : Bool → List ℕ → Grid → Region → List ℕ → List ℕ → List ℕ → Seen → Type 0
-Looked isSolid ws grid r b b′ next (Done c) = Finished isSolid ws grid r b b′ c
-Looked isSolid ws grid r b b′ next (Open start) = Opened isSolid ws grid r b b′ next start
+abbrev pub Looked : Bool → List ℕ → List ℕ → List ℕ → Grid → Region → List ℕ → List ℕ → List ℕ → List ℕ → List ℕ → Seen
+    → Type 0
+Looked isSolid whole ws qs grid r b b′ work next places (Done c) = Finished isSolid ws grid r b b′ c
+Looked isSolid whole ws qs grid r b b′ work next places (Open start) =
+    Opened isSolid whole ws qs grid r b b′ work next places start
 
 -- The whole drawing.
 pub record Walked (isSolid : Bool) (ws : List ℕ) (grid : Grid) (b : List ℕ) (c : ℕ) : Type 0 where

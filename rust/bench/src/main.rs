@@ -1,8 +1,10 @@
 //! `bench` prints a table of times: the core's tiles beside the plain walk and the full drawing.
 //! `bench tiles|plain|full flat|solid NAME` draws one part once, for a profiler.
+//! `bench lengths` prints a table of the lengths of short tapes.
 
 use bench::drawing::{Canvas, Kind, Way};
 use bench::measure::{Times, in_turn};
+use bench::plain::short_lengths;
 use layers::Grid;
 use parts::Part;
 
@@ -10,8 +12,9 @@ fn main() {
     let words: Vec<String> = std::env::args().skip(1).collect();
     match words.iter().map(String::as_str).collect::<Vec<_>>()[..] {
         [] => table(),
+        ["lengths"] => lengths(),
         [way, kind, name] => once(way, kind, name),
-        _ => panic!("usage: bench [tiles|plain|full flat|solid NAME]"),
+        _ => panic!("usage: bench [lengths | tiles|plain|full flat|solid NAME]"),
     }
 }
 
@@ -84,4 +87,43 @@ fn print_row(part: &Part, size: &str, [tiles, plain]: [Times; 2], full: Option<f
         per_clause(tiles_ms),
         per_clause(plain_ms),
     );
+}
+
+/// The short tapes of the regions that are cut, by the plain walk, whose count is the core's: in the part's layer, and
+/// in the same layer of twice as many pixels on each axis, drawn as four.
+fn lengths() {
+    println!(
+        "| part | clauses | slots | pixels | 64-tiles cut | mean short tape | shorter | 8-tiles cut | mean | shorter |"
+    );
+    println!("|---|--:|--:|---|--:|--:|--:|--:|--:|--:|");
+    for part in parts::all() {
+        print_lengths(&part, "512²", &[part.flat]);
+        print_lengths(&part, "1024²", &quarters(part.flat));
+    }
+}
+
+fn print_lengths(part: &Part, size: &str, grids: &[Grid]) {
+    let mut all = [Vec::new(), Vec::new()];
+    for grid in grids {
+        let lengths = short_lengths(part.tape.as_bytes(), *grid);
+        all.iter_mut().zip(lengths).for_each(|(all, lengths)| all.extend(lengths));
+    }
+    let columns = all.map(|lengths| {
+        let mean = lengths.iter().sum::<usize>() as f64 / lengths.len() as f64;
+        format!("{} | {mean:.1} | {:.1}", lengths.len(), part.clauses() as f64 / mean)
+    });
+    let (slots, columns) = (part.tape.slots(), columns.join(" | "));
+    println!("| {} | {} | {slots} | {size} | {columns} |", part.name, part.clauses());
+}
+
+/// The four quarters of a layer, each on as many pixels as the whole had.
+fn quarters(grid: Grid) -> [Grid; 4] {
+    let (xstep, ystep) = (grid.xstep / 2, grid.ystep / 2);
+    [(0, 0), (1, 0), (0, 1), (1, 1)].map(|(right, down)| Grid {
+        xorigin: grid.xorigin + right * xstep * grid.width as i32,
+        yorigin: grid.yorigin + down * ystep * grid.height as i32,
+        xstep,
+        ystep,
+        ..grid
+    })
 }

@@ -1,5 +1,6 @@
-//! A plain Rust version of the walk: the same regions in the same order, the same packed words, the same rules.
-//! It trusts its tape and grid, so it is given only those that the core accepted.
+//! A plain Rust version of the walk: the same regions in the same order, the same packed words, the same rules and
+//! limits. A short tape is kept as its words, and not as marks beside the tape as given: so one would write the walk if
+//! nothing bounded the room to work in. It trusts its tape and grid, so it is given only those that the core accepted.
 
 mod arith;
 mod flat;
@@ -8,17 +9,18 @@ mod shorten;
 mod solid;
 mod word;
 
-pub use flat::tile_flat;
+pub use flat::{short_lengths, tile_flat};
 pub use solid::tile_solid;
 pub use word::words;
 
-use layers::MAX_CLAUSES;
+/// Slots of any tape.
+const SLOTS: usize = layers::MAX_SLOTS as usize;
 
-/// The short tape of one level of the walk; its words end at the buffer's end.
-type Level = [u64; MAX_CLAUSES];
+/// The short tape of one level of the walk, in a buffer as long as the whole tape; its words end at the buffer's end.
+type Level = Vec<u64>;
 
-/// The choices of one run over ranges, a byte a clause.
-type Choices = [u8; MAX_CLAUSES];
+/// The choices of one run over ranges, a byte a clause of the whole tape.
+type Choices = [u8];
 
 /// Sample i of an axis, in the middle of its cell: the sum is a value, so what its parts lose beyond 32 bits is lost in
 /// the sum too.

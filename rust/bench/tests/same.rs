@@ -1,6 +1,7 @@
 //! The plain walk draws the core's picture with the core's count, also on grids whose edges cut regions off.
 
 use bench::drawing::{Canvas, Kind, Way};
+use bench::plain::short_lengths;
 use layers::Grid;
 use parts::Part;
 
@@ -34,5 +35,16 @@ fn on_every_part() {
             same(&part, Kind::Flat, resized(part.flat, sizes));
             same(&part, Kind::Solid, resized(part.solid, sizes));
         }
+    }
+}
+
+/// What the walk runs, by the lengths of its short tapes: each tile has the whole tape, each 8-tile its tile's short
+/// tape, each sample its 8-tile's. The grid has whole tiles.
+#[test]
+fn short_lengths_sum_up_to_the_count() {
+    for part in parts::all() {
+        let [tiles, eights] = short_lengths(part.tape.as_bytes(), part.flat).map(|all| all.iter().sum::<usize>());
+        let count = 64 * part.clauses() + 64 * tiles + 64 * eights;
+        assert_eq!(Canvas::new(Kind::Flat, part.flat).draw(Way::Tiles, &part.tape), count as u64, "{}", part.name);
     }
 }

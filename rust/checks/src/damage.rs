@@ -10,7 +10,7 @@ pub fn tape(r: &mut Random, tape: &mut Vec<u8>) {
         return;
     }
     let clause = 8 + 10 * r.index((tape.len() - 8) / 10);
-    match r.below(12) {
+    match r.below(13) {
         0 => tape.truncate(r.index(tape.len() + 1)),
         1 => tape.extend(r.bytes(1)),
         2 => tape[clause + r.index(2)] ^= 1 << r.index(8),
@@ -31,8 +31,10 @@ pub fn tape(r: &mut Random, tape: &mut Vec<u8>) {
         }
         8 => {
             let any = r.number() as u8;
-            tape[r.index(8)] = r.pick(&[0, 65, any]);
+            tape[r.index(8)] = r.pick(&[0, 65, 129, any]);
         }
+        // 01 for 02 and the other way round
+        9 => tape[2] ^= 3,
         _ => {
             let at = r.index(tape.len());
             tape[at] = r.number() as u8;

@@ -49,10 +49,26 @@ impl Drawing {
         Drawing::new(shapes::random(r, &grid).tape(), grid)
     }
 
+    /// A tape that edition 01 can't hold: for its clauses, on few samples, or for its slots.
+    pub fn wide(r: &mut Random) -> Self {
+        let most = r.pick(&[60, 1500, FEW, FEW]);
+        let grid = if r.one_in(2) { grids::wild(r, most) } else { grids::tame(r, most) };
+        let list = match most {
+            60 => lists::long(r, &grid),
+            1500 => lists::wide(r, &grid),
+            _ => {
+                let part = shapes::random(r, &grid);
+                lists::spread(r, &part)
+            }
+        };
+        Drawing::new(list.tape(), grid)
+    }
+
     /// An accepted input with one thing damaged or two: the tape, the grid or the length of a buffer.
     pub fn damaged(r: &mut Random) -> Self {
         let grid = grids::wild(r, 400);
-        let mut drawing = Drawing::new(lists::random(r, &grid).tape(), grid);
+        let list = if r.one_in(4) { lists::wide(r, &grid) } else { lists::random(r, &grid) };
+        let mut drawing = Drawing::new(list.tape(), grid);
         for _ in 0..1 + r.below(2) {
             match r.below(10) {
                 0..=4 => damage::tape(r, &mut drawing.tape),
@@ -123,6 +139,7 @@ pub const RANDOM: Series = Series { seed: 0x5EED_0001, cases: 3000, of: Drawing:
 pub const ARITHMETIC: Series = Series { seed: 0x5EED_0002, cases: 3000, of: Drawing::arithmetic };
 pub const SHAPES: Series = Series { seed: 0x5EED_0003, cases: 1500, of: Drawing::shapes };
 pub const DAMAGED: Series = Series { seed: 0x5EED_0004, cases: 4000, of: Drawing::damaged };
+pub const WIDE: Series = Series { seed: 0x5EED_0005, cases: 1000, of: Drawing::wide };
 
 impl Series {
     /// Calls `check` with each case; the noise in the buffers has a seed of its own. The number of cases comes back.

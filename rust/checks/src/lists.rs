@@ -96,6 +96,38 @@ fn list(r: &mut Random, grid: &Grid, slots: u64, count: u64, kind: &Kind) -> Lis
     List { slots: slots as u32, clauses }
 }
 
+/// A list of more slots than edition 01 has.
+pub fn wide(r: &mut Random, grid: &Grid) -> List {
+    let (slots, count) = (65 + r.below(64), 40 + r.below(160));
+    list(r, grid, slots, count, &CHOICES)
+}
+
+/// A list of more clauses than edition 01 has, in any number of slots.
+pub fn long(r: &mut Random, grid: &Grid) -> List {
+    let slots = if r.one_in(4) { 128 } else { 1 + r.below(128) };
+    let count = match r.below(4) {
+        0 => 1025,
+        1 => 6144,
+        _ => 1025 + r.below(400),
+    };
+    list(r, grid, slots, count, &CHOICES)
+}
+
+/// The same list in more slots than edition 01 has, each put to some other place.
+pub fn spread(r: &mut Random, list: &List) -> List {
+    let slots = 65 + r.below(64) as u32;
+    let mut places: Vec<i32> = (0..slots as i32).collect();
+    for i in 1..places.len() {
+        places.swap(i, r.index(i + 1));
+    }
+    let place = |used: bool, slot: i32| if used { places[slot as usize] } else { 0 };
+    let clauses = list.clauses.iter();
+    let clauses = clauses.map(|&[opcode, out, left, right, constant]| {
+        [opcode, places[out as usize], place(opcode >= 4, left), place(opcode >= 9, right), constant]
+    });
+    List { slots, clauses: clauses.collect() }
+}
+
 /// A list of choices on few slots, so that slots are used again.
 pub fn random(r: &mut Random, grid: &Grid) -> List {
     let slots = if r.one_in(20) { 64 } else { 1 + r.below(8) };

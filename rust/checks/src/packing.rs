@@ -30,10 +30,14 @@ impl Packing {
     /// An accepted list, or one with something damaged.
     pub fn random(r: &mut Random) -> Self {
         let grid = grids::wild(r, 400);
-        let list = lists::random(r, &grid);
+        let list = match r.below(20) {
+            0 => lists::long(r, &grid),
+            1..=4 => lists::wide(r, &grid),
+            _ => lists::random(r, &grid),
+        };
         let mut case = Packing::new(list.slots, list.numbers());
         match r.below(8) {
-            0 => case.slots = r.pick(&[0, 64, 65, 1_000_000]),
+            0 => case.slots = r.pick(&[0, 64, 65, 128, 129, 1_000_000]),
             1 | 2 => {
                 let at = r.index(case.list.len());
                 let any = r.number() as i32;
@@ -45,6 +49,21 @@ impl Packing {
             _ => {}
         }
         case
+    }
+
+    /// The list of a tape, which the core unpacks, to be packed again.
+    pub fn again(tape: &[u8]) -> Self {
+        let mut list = vec![0; 5 * ((tape.len() - 8) / 10)];
+        let listed = raw::unpack_tape(tape, &mut list);
+        assert_eq!(listed.answer.number, 0, "an accepted tape");
+        Packing::new(listed.slots.into(), list)
+    }
+
+    /// The core's tape of the list.
+    pub fn packed(&self) -> Vec<u8> {
+        let mut bytes = vec![0xA5; self.out];
+        assert_eq!(raw::pack_tape(self.slots, &self.list, &mut bytes).number, 0, "an accepted list");
+        bytes
     }
 
     pub fn compare(&self, r: &mut Random) -> Result<Answer, String> {

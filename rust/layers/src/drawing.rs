@@ -13,7 +13,8 @@ pub struct Drawn<T> {
     pub count: u64,
 }
 
-/// The memory that a drawing by tiles works in, made once for many pictures.
+/// The memory that a drawing by tiles works in, made once for many pictures. While a picture is drawn it holds what the
+/// regions chose and their short tapes, as two bits a clause beside the tape as given; after it, nothing.
 ///
 /// ```
 /// use layers::{fixed, Bitmap, Clause, Grid, Tape, Work, ONE};

@@ -47,7 +47,7 @@ pub use grid::MAX_SIZE;
 pub use heightmap::Heightmap;
 pub use raw::Grid;
 pub use refusal::Refusal;
-pub use tape::{MAX_CLAUSES, MAX_SLOTS, Tape};
+pub use tape::{FIRST_EDITION_CLAUSES, FIRST_EDITION_SLOTS, MAX_CLAUSES, MAX_SLOTS, Tape};
 
 /// The README's example runs with the other examples.
 #[cfg(doctest)]

@@ -64,7 +64,8 @@ pub struct Grid {
     pub zstep: i32,
 }
 
-/// The least length of a work buffer, in bytes.
+/// The least length of a work buffer, in bytes, whatever the tape: a short tape is kept there as two bits a clause
+/// beside the tape as given.
 pub const WORK: usize = 32_768;
 
 unsafe extern "C" {

@@ -1,7 +1,7 @@
 //! Why an input is turned down.
 
 use crate::raw::{Answer, WORK};
-use crate::{MAX_CLAUSES, MAX_SIZE, MAX_SLOTS, Opcode};
+use crate::{FIRST_EDITION_CLAUSES, FIRST_EDITION_SLOTS, MAX_CLAUSES, MAX_SIZE, MAX_SLOTS, Opcode};
 use std::error::Error;
 use std::fmt;
 
@@ -94,9 +94,11 @@ refusals! {
     1 ShortTape, "tape below 8 bytes",
         "the tape is shorter than its head of 8 bytes: is the file cut off?";
     2 WrongHead, "head mark, edition or spare bytes wrong",
-        "this is no tape of edition 1: it must begin with the bytes 54 50 01, and bytes 6 and 7 must be 00";
-    3 CountOutOfRange, "slot or clause count out of range",
-        "a tape has 1 to {MAX_SLOTS} slots and 1 to {MAX_CLAUSES} clauses: use slots again, or split the part";
+        "this is no tape of edition 1 or 2: it must begin with the bytes 54 50 01 or 54 50 02, and bytes 6 and 7 must \
+         be 00";
+    3 CountOutOfRange, "slot or clause count out of range, or edition not that of these counts",
+        "a tape has 1 to {MAX_SLOTS} slots and 1 to {MAX_CLAUSES} clauses, and edition 1 exactly if it has at most \
+         {FIRST_EDITION_SLOTS} and {FIRST_EDITION_CLAUSES}: use slots again, split the part, or pack the list anew";
     4 WrongLength, "tape length not 8 + 10·clauses; list length not a multiple of 5",
         "the length does not fit: a tape has 8 bytes and 10 for each clause that its head counts, \
          a list five numbers for each clause";

@@ -4,10 +4,16 @@ use crate::lend::filled;
 use crate::{Clause, Refusal, raw};
 
 /// The most slots of a tape.
-pub const MAX_SLOTS: u8 = 64;
+pub const MAX_SLOTS: u8 = 128;
 
 /// The most clauses of a tape.
-pub const MAX_CLAUSES: usize = 1024;
+pub const MAX_CLAUSES: usize = 6144;
+
+/// The most slots of a tape of edition 1.
+pub const FIRST_EDITION_SLOTS: u8 = 64;
+
+/// The most clauses of a tape of edition 1.
+pub const FIRST_EDITION_CLAUSES: usize = 1024;
 
 const HEAD_BYTES: usize = 8;
 const CLAUSE_BYTES: usize = 10;
@@ -37,6 +43,23 @@ const LIST_NUMBERS: usize = 5;
 /// assert_eq!(Tape::from_bytes(&bytes[..])?, tape);
 /// bytes[8 + 10 * 3 + 2] = 99; // the opcode of clause 3
 /// assert_eq!(Tape::from_bytes(bytes), Err(Refusal::UnknownClause { clause: 3 }));
+/// # Ok::<(), Refusal>(())
+/// ```
+///
+/// A tape of at most 64 slots and 1,024 clauses is of edition 1, as all were before there was another: cores of every
+/// age read it. A larger one, up to 128 slots and 6,144 clauses, is of edition 2, and only such a one is:
+///
+/// ```
+/// use layers::{Clause, Refusal, Tape};
+///
+/// // more slots than edition 1 has
+/// let tape = Tape::from_clauses(65, &[Clause::x(0)])?;
+/// assert_eq!(tape.edition(), 2);
+/// assert_eq!(Tape::from_clauses(64, &[Clause::x(0)])?.edition(), 1);
+///
+/// let mut bytes = tape.as_bytes().to_vec();
+/// bytes[3] = 64; // edition 1 can hold it now
+/// assert_eq!(Tape::from_bytes(bytes), Err(Refusal::CountOutOfRange));
 /// # Ok::<(), Refusal>(())
 /// ```
 #[derive(Clone, Debug, PartialEq, Eq, Hash)]
@@ -78,6 +101,12 @@ impl Tape {
     /// The slot count.
     pub fn slots(&self) -> u8 {
         self.bytes[3]
+    }
+
+    /// The edition of its head: 1 if the tape has at most [`FIRST_EDITION_SLOTS`] slots and
+    /// [`FIRST_EDITION_CLAUSES`] clauses, otherwise 2.
+    pub fn edition(&self) -> u8 {
+        self.bytes[2]
     }
 
     /// The tape's bytes: a head of 8, then 10 for each clause.
@@ -142,9 +171,11 @@ mod tests {
 
     #[test]
     fn damaged_bytes_are_refused_by_number_and_place() {
-        let damages: [(usize, u8, u8, Option<u32>); 12] = [
+        let damages: [(usize, u8, u8, Option<u32>); 14] = [
             (0, 0x55, 2, None),
-            (2, 2, 2, None),
+            (2, 0, 2, None),
+            (2, 3, 2, None),
+            (2, 2, 3, None),
             (7, 1, 2, None),
             (3, 0, 3, None),
             (3, 65, 3, None),
@@ -191,11 +222,26 @@ mod tests {
     fn counts_pass_up_to_their_limits() {
         let clauses = [Clause::x(0); MAX_CLAUSES + 1];
         let tape = Tape::from_clauses(MAX_SLOTS, &clauses[1..]).unwrap();
-        assert_eq!((tape.slots(), tape.clauses().len()), (64, 1024));
+        assert_eq!((tape.edition(), tape.slots(), tape.clauses().len()), (2, 128, 6144));
         assert_eq!(Tape::from_bytes(tape.as_bytes()), Ok(tape));
         assert_eq!(Tape::from_clauses(MAX_SLOTS, &clauses), Err(Refusal::CountOutOfRange));
         assert_eq!(Tape::from_clauses(MAX_SLOTS + 1, &clauses[1..]), Err(Refusal::CountOutOfRange));
         assert_eq!(Tape::from_clauses(0, &clauses[1..]), Err(Refusal::CountOutOfRange));
         assert_eq!(Tape::from_clauses(1, &[]), Err(Refusal::CountOutOfRange));
+    }
+
+    /// The edition is 1 as long as that can hold the tape, and no other edition of the same counts is accepted.
+    #[test]
+    fn the_edition_follows_the_counts() {
+        let clauses = [Clause::x(0); FIRST_EDITION_CLAUSES + 1];
+        let (slots, count) = (FIRST_EDITION_SLOTS, FIRST_EDITION_CLAUSES);
+        for (slots, count, edition) in [(slots, count, 1), (slots + 1, count, 2), (slots, count + 1, 2), (1, 1, 1)] {
+            let tape = Tape::from_clauses(slots, &clauses[..count]).unwrap();
+            assert_eq!((tape.edition(), tape.slots(), tape.clauses().len()), (edition, slots, count));
+            assert_eq!(Tape::from_bytes(tape.as_bytes()), Ok(tape.clone()));
+            let mut other = tape.as_bytes().to_vec();
+            other[2] = 3 - edition;
+            assert_eq!(Tape::from_bytes(other), Err(Refusal::CountOutOfRange));
+        }
     }
 }

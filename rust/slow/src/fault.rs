@@ -65,6 +65,16 @@ listed! {
         EndAtZeroIsFree,
         /// The quotient of the two high ends is left out of a range.
         ThreeQuotients,
+        /// A clause that reads slot 64 or one above it has what lies 64 lower.
+        Slot64ReadAs0,
+        /// In the set of needed slots 64 is 0.
+        NeededIsOneWord,
+        /// Packing writes edition 01 whatever the counts.
+        AlwaysFirst,
+        /// Edition 02 is accepted for a tape that 01 can hold.
+        SecondForSmall,
+        /// A tape's head counts at most 6,143 clauses.
+        OneClauseFewer,
     }
 }
 

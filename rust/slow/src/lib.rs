@@ -19,9 +19,11 @@ macro_rules! listed {
 pub mod arith;
 pub mod call;
 pub mod draw;
+pub mod edition;
 pub mod fault;
 pub mod netpbm;
 pub mod program;
 pub mod seen;
+mod slots;
 pub mod tape;
 pub mod walk;

@@ -2,9 +2,10 @@
 use borrow.Author.Needs.{needs}
 use mathlib.Core.Path.{_≡_, sym, _∙_}
 use mathlib.Core.Bool.{true}
+use lib.ListN.{getD}
 use borrow.Author.Tests.{not-true, not-false}
-use Rattle.rules.specs.Tapes.{headOk, countsOk}
-use Rattle.rules.proofs.Reading.{counts-hold}
+use Rattle.rules.specs.Tapes.{headOk, headCounts}
+use Rattle.rules.proofs.Reading.{counts-hold, head-counts-hold}
 use Rattle.tape_check.proofs.Reading.{tape-1, tape-2, tape-3, tape-4, tape-on}
 use Rattle.tape_check.proofs.check_tape.Statement.{statement}
 use Rattle.tape_check.proofs.check_tape.Tie as tie
@@ -28,19 +29,19 @@ returns-2 c =
     (c .refused2 .ensures)
 
 -- Where the counts are tested: they were read before, and the head and the length were tested before that.
-abbrev count-read : tie.After-counts-ok → tie.After-word-at
-count-read c = c .before
+abbrev count-read : tie.After-head-counts → tie.After-word-at
+count-read c = c .before .before
 
-abbrev slots-read : tie.After-counts-ok → tie.After-byte-at
+abbrev slots-read : tie.After-head-counts → tie.After-byte-at
 slots-read c = count-read c .before
 
-abbrev head-tested : tie.After-counts-ok → tie.Else2
+abbrev head-tested : tie.After-head-counts → tie.Else2
 head-tested c = slots-read c .before
 
-abbrev length-tested : tie.After-counts-ok → tie.Else1
+abbrev length-tested : tie.After-head-counts → tie.Else1
 length-tested c = head-tested c .before .before
 
-headed : (c : tie.After-counts-ok) → headOk (length-tested c .before .before .args .tape .now) ≡ true
+headed : (c : tie.After-head-counts) → headOk (length-tested c .before .before .args .tape .now) ≡ true
 headed c = let h = head-tested c in sym (h .before .head-ok .ensures) ∙ not-false _ (h .if2 .left)
 
 byte-at-requires : tie.Need-byte-at-requires
@@ -49,11 +50,11 @@ byte-at-requires c κs = search needs
 word-at-requires : tie.Need-word-at-requires
 word-at-requires c κs = search needs
 
-cast-counts-ok : tie.Need-cast-counts-ok
-cast-counts-ok c = search needs
+shared-slice-read-head-counts : tie.Need-shared-slice-read-head-counts
+shared-slice-read-head-counts c = search needs
 
-counts-ok-requires : tie.Need-counts-ok-requires
-counts-ok-requires c κs = search needs
+head-counts-requires : tie.Need-head-counts-requires
+head-counts-requires c κs = search needs
 
 refused-requires-3 : tie.Need-refused-requires-3
 refused-requires-3 c κs = search needs
@@ -63,11 +64,12 @@ returns-3 c =
     let d = c .before .before in
     tape-3 _ _ (length-tested d .if1 .left) (headed d) _ _ (slots-read d .byte-at .ensures .0)
     (count-read d .word-at .ensures .0)
-    (sym (d .counts-ok .ensures) ∙ not-true _ (c .before .if3 .taken)) (c .refused3 .ensures)
+    (sym (d .head-counts .ensures) ∙ not-true _ (c .before .if3 .taken)) (c .refused3 .ensures)
 
 counted : (c : tie.Else3)
-    → countsOk (slots-read (c .before) .byte-at .result) (count-read (c .before) .word-at .result) ≡ true
-counted c = sym (c .before .counts-ok .ensures) ∙ not-false _ (c .if3 .left)
+    → headCounts (getD (length-tested (c .before) .before .before .args .tape .now) 2 0)
+    (slots-read (c .before) .byte-at .result) (count-read (c .before) .word-at .result) ≡ true
+counted c = sym (c .before .head-counts .ensures) ∙ not-false _ (c .if3 .left)
 
 cast-if4 : tie.Need-cast-if4
 cast-if4 c = search needs
@@ -91,7 +93,7 @@ returns-4 c =
 
 tape-clauses-requires : tie.Need-tape-clauses-requires
 tape-clauses-requires c κs =
-    let w = counts-hold _ _ (counted (c .before)) in
+    let w = counts-hold _ _ (head-counts-hold _ _ _ (counted (c .before))) in
     (w .slots, (w .clauses, c .if4 .left))
 
 returns-5 : tie.Need-returns-5
@@ -113,8 +115,8 @@ check-tape-spec =
     returns-2
     byte-at-requires
     word-at-requires
-    cast-counts-ok
-    counts-ok-requires
+    shared-slice-read-head-counts
+    head-counts-requires
     refused-requires-3
     returns-3
     cast-if4

@@ -4,17 +4,31 @@ use super::arith::Span;
 use super::run::{Slots, run_ranges, run_values};
 use super::shorten::shorten;
 use super::word::words;
-use super::{Choices, Level, MAX_CLAUSES, axis, sample};
+use super::{Choices, Level, SLOTS, axis, sample};
 use layers::Grid;
 
 /// Draws into the picture, whatever it held, and returns the walk's count.
 pub fn tile_flat(tape: &[u8], grid: Grid, picture: &mut [u8]) -> u64 {
+    walked(tape, grid, picture, |_, _| ())
+}
+
+/// The lengths of the short tapes of all regions that are cut: of side 64, and of side 8.
+pub fn short_lengths(tape: &[u8], grid: Grid) -> [Vec<usize>; 2] {
+    let mut lengths = [Vec::new(), Vec::new()];
+    let mut picture = vec![0; (grid.width as usize).div_ceil(8) * grid.height as usize];
+    walked(tape, grid, &mut picture, |side, length| lengths[(side == 8) as usize].push(length));
+    lengths
+}
+
+/// `cut` is told the side and the short tape's length of each region that is cut.
+fn walked(tape: &[u8], grid: Grid, picture: &mut [u8], cut: impl FnMut(u32, usize)) -> u64 {
     picture.fill(0);
+    let code = words(tape);
     let row = (grid.width as usize).div_ceil(8);
-    let mut walk =
-        Walk { grid, row, picture, choices: [0; MAX_CLAUSES], ranges: Slots::new(), values: [0; 64], count: 0 };
+    let choices = &mut vec![0; code.len()][..];
+    let mut walk = Walk { grid, row, picture, cut, choices, ranges: Slots::new(), values: [0; SLOTS], count: 0 };
     let all = Region { x: 0, xend: grid.width, y: 0, yend: grid.height };
-    walk.visit_children(&words(tape), all, 64, &mut [[0; MAX_CLAUSES]; 2]);
+    walk.visit_children(&code, all, 64, &mut [vec![0; code.len()], vec![0; code.len()]]);
     walk.count
 }
 
@@ -27,35 +41,37 @@ struct Region {
     yend: u32,
 }
 
-struct Walk<'a> {
+struct Walk<'a, F> {
     grid: Grid,
     /// The bytes of one row of the picture.
     row: usize,
     picture: &'a mut [u8],
-    choices: Choices,
+    cut: F,
+    choices: &'a mut Choices,
     ranges: Slots,
-    values: [i32; 64],
+    values: [i32; SLOTS],
     count: u64,
 }
 
-impl Walk<'_> {
+impl<F: FnMut(u32, usize)> Walk<'_, F> {
     fn visit_children(&mut self, code: &[u64], parent: Region, side: u32, levels: &mut [Level]) {
         for y in (parent.y..parent.yend).step_by(side as usize) {
             for x in (parent.x..parent.xend).step_by(side as usize) {
                 let region = Region { x, xend: self.grid.width.min(x + side), y, yend: self.grid.height.min(y + side) };
-                self.visit(code, region, levels);
+                self.visit(code, region, side, levels);
             }
         }
     }
 
-    fn visit(&mut self, code: &[u64], region: Region, levels: &mut [Level]) {
+    fn visit(&mut self, code: &[u64], region: Region, side: u32, levels: &mut [Level]) {
         self.count += code.len() as u64;
-        let range = run_ranges(code, self.bounds(region), &mut self.ranges, &mut self.choices);
+        let range = run_ranges(code, self.bounds(region), &mut self.ranges, self.choices);
         if range.high < 0 {
             self.fill(region);
         } else if range.low < 0 {
             let (next, below) = levels.split_first_mut().expect("a level for every side");
-            let start = shorten(code, &self.choices, next);
+            let start = shorten(code, self.choices, next);
+            (self.cut)(side, next.len() - start);
             if below.is_empty() {
                 self.visit_samples(&next[start..], region);
             } else {

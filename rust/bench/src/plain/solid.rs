@@ -4,15 +4,18 @@ use super::arith::Span;
 use super::run::{Slots, run_ranges, run_values};
 use super::shorten::shorten;
 use super::word::words;
-use super::{Choices, Level, MAX_CLAUSES, axis, sample};
+use super::{Choices, Level, SLOTS, axis, sample};
 use layers::Grid;
 
 /// Draws into the picture, whatever it held, and returns the walk's count.
 pub fn tile_solid(tape: &[u8], grid: Grid, picture: &mut [u16]) -> u64 {
     picture.fill(0);
-    let mut walk = Walk { grid, picture, choices: [0; MAX_CLAUSES], ranges: Slots::new(), values: [0; 64], count: 0 };
+    let code = words(tape);
+    let choices = &mut vec![0; code.len()][..];
+    let mut walk = Walk { grid, picture, choices, ranges: Slots::new(), values: [0; SLOTS], count: 0 };
     let all = Region { x: 0, xend: grid.width, y: 0, yend: grid.height, z: 0, zend: grid.depth };
-    walk.visit_children(&words(tape), all, 64, &mut [[0; MAX_CLAUSES]; 3]);
+    let mut levels = [0; 3].map(|_| vec![0; code.len()]);
+    walk.visit_children(&code, all, 64, &mut levels);
     walk.count
 }
 
@@ -30,9 +33,9 @@ struct Region {
 struct Walk<'a> {
     grid: Grid,
     picture: &'a mut [u16],
-    choices: Choices,
+    choices: &'a mut Choices,
     ranges: Slots,
-    values: [i32; 64],
+    values: [i32; SLOTS],
     count: u64,
 }
 
@@ -60,12 +63,12 @@ impl Walk<'_> {
             return;
         }
         self.count += code.len() as u64;
-        let range = run_ranges(code, self.bounds(region), &mut self.ranges, &mut self.choices);
+        let range = run_ranges(code, self.bounds(region), &mut self.ranges, self.choices);
         if range.high < 0 {
             self.fill(region);
         } else if range.low < 0 {
             let (next, below) = levels.split_first_mut().expect("a level for every side");
-            let start = shorten(code, &self.choices, next);
+            let start = shorten(code, self.choices, next);
             if below.is_empty() {
                 self.visit_samples(&next[start..], region);
             } else {

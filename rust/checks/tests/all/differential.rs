@@ -1,7 +1,7 @@
 //! The core against the slow drawing, call by call: answers, and every byte of every lent buffer, which start full of
 //! noise. Seeds are fixed and printed; LAYERS_CASES=n runs n cases of each kind.
 
-use checks::drawing::{ARITHMETIC, DAMAGED, Drawing, RANDOM, SHAPES, Series};
+use checks::drawing::{ARITHMETIC, DAMAGED, Drawing, RANDOM, SHAPES, Series, WIDE};
 use checks::files::File;
 use checks::packing::{Packing, Unpacking};
 use checks::random::{Random, cases};
@@ -58,6 +58,12 @@ fn random_drawings() {
     compare_walks("random_drawings", &RANDOM);
 }
 
+/// Tapes that edition 01 can't hold.
+#[test]
+fn wide_drawings() {
+    compare_walks("wide_drawings", &WIDE);
+}
+
 #[test]
 fn drawings_of_shapes() {
     compare_walks("drawings_of_shapes", &SHAPES);
@@ -95,6 +101,19 @@ fn lists_and_tapes() {
         unpacking.out += r.one_in(4) as usize;
         unpacking.compare(&mut r).unwrap_or_else(|e| panic!("{e}"));
     }
+}
+
+/// Every accepted tape, unpacked by the core and packed again, is the same bytes, those of edition 01 and of 02.
+#[test]
+fn tapes_again() {
+    let mut editions = [0; 3];
+    for series in [RANDOM, SHAPES, WIDE] {
+        series.each("tapes_again", |Drawing { tape, .. }, _| {
+            assert!(Packing::again(tape).packed() == *tape, "{tape:?}");
+            editions[tape[2] as usize] += 1;
+        });
+    }
+    assert!(editions[0] == 0 && editions[1] > 0 && editions[2] > 0, "{editions:?}");
 }
 
 #[test]

@@ -1,5 +1,6 @@
 //! The checked-in examples: the parts as inputs of the program, and the use from C that the README shows.
 
+use checks::packing::Packing;
 use checks::program;
 use std::fs;
 use std::path::{Path, PathBuf};
@@ -9,12 +10,25 @@ fn in_repository(path: &str) -> PathBuf {
     Path::new(env!("CARGO_MANIFEST_DIR")).join("../..").join(path)
 }
 
-#[test]
-fn the_program_draws_every_part() {
+fn parts() -> Vec<PathBuf> {
     let files = fs::read_dir(in_repository("examples")).unwrap().map(|file| file.unwrap().path());
     let parts: Vec<PathBuf> = files.filter(|file| file.extension().is_some_and(|found| found == "part")).collect();
     assert!(!parts.is_empty());
-    for part in parts {
+    parts
+}
+
+/// Stored tapes, most of them from before there was a second edition, are the same bytes when packed again.
+#[test]
+fn stored_tapes_are_the_same_when_packed_again() {
+    for part in parts() {
+        let tape = &fs::read(&part).unwrap()[32..];
+        assert!(Packing::again(tape).packed() == tape, "{}", part.display());
+    }
+}
+
+#[test]
+fn the_program_draws_every_part() {
+    for part in parts() {
         let answer = program::compare(&fs::read(&part).unwrap()).unwrap_or_else(|e| panic!("{}: {e}", part.display()));
         assert_eq!(answer.number, 0, "{}", part.display());
     }

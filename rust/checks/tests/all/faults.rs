@@ -1,6 +1,6 @@
 //! Faults planted in the slow drawing, one at a time: the comparisons must catch each.
 
-use checks::drawing::{ARITHMETIC, DAMAGED, Drawing, RANDOM, SHAPES};
+use checks::drawing::{ARITHMETIC, DAMAGED, Drawing, RANDOM, SHAPES, WIDE};
 use checks::files::File;
 use checks::packing::Packing;
 use checks::program;
@@ -9,22 +9,22 @@ use slow::call::Answer;
 use slow::fault::{self, Fault};
 
 const SEED: u64 = 0x5EED_0030;
-const CASES: u64 = 2000;
+const CASES: u64 = 2600;
 
 /// The kinds of comparison that the other tests make, in turn.
-const KINDS: u64 = 11;
+const KINDS: u64 = 13;
 
 fn compare(kind: u64, r: &mut Random, noise: &mut Random) -> Result<Answer, String> {
-    let of = [RANDOM, SHAPES, ARITHMETIC, DAMAGED][kind as usize % 4].of;
+    let of = [RANDOM, SHAPES, ARITHMETIC, DAMAGED, WIDE][kind as usize % 5].of;
     match kind {
-        0..=3 => of(r).compare(noise).map(|a| a[0]),
-        4..=7 => {
+        0..=4 => of(r).compare(noise).map(|a| a[0]),
+        5..=9 => {
             let Drawing { tape, grid, .. } = of(r);
             let record = if noise.one_in(2) { program::flat_input } else { program::input };
             program::compare(&record(&grid, &tape))
         }
-        8 => program::compare(&program::damaged_input(r)),
-        9 => Packing::random(r).compare(noise),
+        10 => program::compare(&program::damaged_input(r)),
+        11 => Packing::random(r).compare(noise),
         _ => File::random(r).compare_bitmap(noise),
     }
 }

@@ -24,13 +24,31 @@ fn grid(sizes: [u32; 3]) -> Grid {
 }
 
 /// A tape of so many clauses that all say 7 in slot 0.
-fn long_tape(clauses: u16) -> Vec<u8> {
+fn long_tape(edition: u8, slots: u8, clauses: u16) -> Vec<u8> {
     let count = clauses.to_le_bytes();
-    let mut tape = vec![0x54, 0x50, 1, 1, count[0], count[1], 0, 0];
+    let mut tape = vec![0x54, 0x50, edition, slots, count[0], count[1], 0, 0];
     for _ in 0..clauses {
         tape.extend([0x43, 0x4C, 0, 0, 0, 0, 7, 0, 0, 0]);
     }
     tape
+}
+
+/// The numbers of such a tape: of the drawings, the program and unpacking, which must be one.
+fn number_of(edition: u8, slots: u8, clauses: u16) -> u8 {
+    let mut r = Random::new(0x5EED_000A);
+    let drawing = Drawing::new(long_tape(edition, slots, clauses), grid([2, 2, 2]));
+    let number = program_number(&program::flat_input(&drawing.grid, &drawing.tape));
+    assert_eq!(numbers(&drawing), [number; 4], "{edition}, {slots} slots, {clauses} clauses");
+    assert_eq!(program_number(&program::input(&drawing.grid, &drawing.tape)), number);
+    assert_eq!(Unpacking::new(drawing.tape).compare(&mut r).map(|(a, _)| a.number), Ok(number));
+    number
+}
+
+/// The number of the same list, and the edition that packing writes.
+fn packed(slots: u32, clauses: usize) -> (u8, u8) {
+    let packing = Packing::new(slots, [0, 0, 0, 0, 7].repeat(clauses));
+    let number = packing.compare(&mut Random::new(0x5EED_000A)).unwrap_or_else(|e| panic!("{e}")).number;
+    (number, if number == 0 { packing.packed()[2] } else { 0 })
 }
 
 /// The disc x·x + y·y − 9, each product of a slot by itself, on 24 by 24 cells from −12 on.
@@ -202,18 +220,79 @@ fn the_tape_is_its_list() {
     assert_eq!(numbers, list);
 }
 
+/// The scope paper's limits, and the rows of the request for lettering: edition, slots, clauses, number.
 #[test]
-fn clauses_up_to_1024() {
-    let mut r = Random::new(0x5EED_000A);
-    for (clauses, number) in [(1024, 0), (1025, 3)] {
-        let drawing = Drawing::new(long_tape(clauses), grid([2, 2, 2]));
-        assert_eq!(numbers(&drawing), [number; 4], "{clauses} clauses");
-        assert_eq!(program_number(&program::flat_input(&drawing.grid, &drawing.tape)), number);
-        assert_eq!(program_number(&program::input(&drawing.grid, &drawing.tape)), number);
-        assert_eq!(Unpacking::new(drawing.tape).compare(&mut r).map(|(a, _)| a.number), Ok(number));
-        let list = [0, 0, 0, 0, 7].repeat(clauses as usize);
-        assert_eq!(Packing::new(1, list).compare(&mut r).map(|a| a.number), Ok(number));
+fn editions_and_counts() {
+    let rows = [
+        (1, 1, 1024, 0),
+        (1, 1, 1025, 3),
+        (2, 1, 1025, 0),
+        (2, 1, 1024, 3),
+        (2, 65, 1, 0),
+        (2, 128, 6144, 0),
+        (2, 129, 1, 3),
+        (2, 128, 6145, 3),
+        (2, 65, 0, 3),
+        (1, 64, 1024, 0),
+        (1, 65, 1, 3),
+        (2, 64, 1024, 3),
+        (2, 64, 1025, 0),
+        (2, 65, 1024, 0),
+        (2, 255, 65_535, 3),
+        (0, 65, 1, 2),
+        (3, 65, 1, 2),
+        (3, 129, 6145, 2),
+    ];
+    for (edition, slots, clauses, number) in rows {
+        assert_eq!(number_of(edition, slots, clauses), number, "{edition}, {slots} slots, {clauses} clauses");
     }
+}
+
+/// Lists are bound by the counts alone, and packing writes the edition of the counts.
+#[test]
+fn editions_of_lists() {
+    for (slots, clauses, edition) in [(1, 1, 1), (64, 1024, 1), (64, 1025, 2), (65, 1024, 2), (128, 6144, 2)] {
+        assert_eq!(packed(slots, clauses), (0, edition), "{slots} slots, {clauses} clauses");
+    }
+    for (slots, clauses) in [(0, 1), (129, 1), (65, 0), (1, 6145), (128, 6145), (256 + 65, 1)] {
+        assert_eq!(packed(slots, clauses), (3, 0), "{slots} slots, {clauses} clauses");
+    }
+}
+
+/// 1,100 times the constant 5 in slot 100, which nothing reads, before the scope paper's tape of three clauses.
+#[test]
+fn three_clauses_after_1100() {
+    let mut list = [0, 100, 0, 0, 5].repeat(1100);
+    list.extend([1, 0, 0, 0, 0, 0, 1, 0, 0, 131_072, 10, 0, 0, 1, 0]);
+    let tape = Packing::new(101, list).packed();
+    assert_eq!(tape[..8], [0x54, 0x50, 0x02, 0x65, 0x4F, 0x04, 0x00, 0x00]);
+
+    let drawing = Drawing::new(tape, grid([3, 2, 1]));
+    let (mut full, mut tiles, mut work) = ([0xFF; 2], [0xFF; 2], vec![0xFF; raw::WORK]);
+    assert_eq!(raw::draw_flat(&drawing.tape, drawing.core_grid(), &mut full), done(6 * 1103));
+    assert_eq!(raw::tile_flat(&drawing.tape, drawing.core_grid(), &mut tiles, &mut work), done(1_124));
+    assert_eq!((full, tiles), ([0xC0; 2], [0xC0; 2]));
+    assert!(work.iter().all(|&b| b == 0));
+    assert_eq!(numbers(&drawing), [0; 4]);
+
+    let file = b"P4\n3 2\n\xC0\xC0";
+    let input = program::flat_input(&drawing.grid, &drawing.tape);
+    assert_eq!(run(&input), (file.to_vec(), b"1124\n".to_vec(), Some(0)));
+}
+
+/// The largest counts, every slot used: the list is its tape's and the tape its list's, and slot 127 is drawn from.
+#[test]
+fn both_ways_at_the_limits() {
+    let mut r = Random::new(0x5EED_000D);
+    let mut clauses: Vec<[i32; 5]> = (0..128).map(|slot| [1 + slot % 3, slot, 0, 0, 0]).collect();
+    clauses.extend((128..6144).map(|i| [12 + i % 2, i % 128, (i + 63) % 128, (i + 64) % 128, 0]));
+    let packing = Packing::new(128, clauses.concat());
+    assert_eq!(packing.compare(&mut r).map(|a| a.number), Ok(0));
+    let tape = packing.packed();
+    assert_eq!((tape.len(), tape[2], tape[3]), (61_448, 2, 128));
+    assert_eq!(Unpacking::new(tape.clone()).compare(&mut r).map(|(a, slots)| (a.number, slots)), Ok((0, 128)));
+    assert_eq!(Packing::again(&tape).list, packing.list);
+    assert_eq!(numbers(&Drawing::new(tape, Grid { origins: [-200_000; 3], ..grid([9, 6, 5]) })), [0; 4]);
 }
 
 #[test]

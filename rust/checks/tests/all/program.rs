@@ -1,6 +1,6 @@
 //! The program against the slow one: on the inputs of every series, on damaged records; short, closed and full pipes.
 
-use checks::drawing::{ARITHMETIC, DAMAGED, RANDOM, SHAPES, Series};
+use checks::drawing::{ARITHMETIC, DAMAGED, RANDOM, SHAPES, Series, WIDE};
 use checks::program::{self, check, compare, damaged_input, flat_input, input};
 use checks::random::{Random, cases};
 use slow::draw::Grid;
@@ -37,6 +37,27 @@ fn inputs_of_arithmetic() {
 #[test]
 fn inputs_of_shapes() {
     run_all("inputs_of_shapes", &SHAPES);
+}
+
+#[test]
+fn inputs_of_wide_tapes() {
+    run_all("inputs_of_wide_tapes", &WIDE);
+}
+
+/// The longest tape, of which the last clause alone counts: 61,480 bytes with the grid record, and no more.
+#[test]
+fn longest_input() {
+    let list = [[0, 127, 0, 0, -7]].repeat(6144).concat();
+    let tape = slow::tape::Tape::from_list(128, &list).expect("an accepted list").to_bytes();
+    for depth in [0, 3] {
+        let grid = Grid { sizes: [70, 70, depth], origins: [0; 3], steps: [65_536; 3] };
+        let mut whole = input(&grid, &tape);
+        assert_eq!((whole.len(), same(&whole)), (61_480, 0));
+        whole.push(0);
+        assert_eq!(same(&whole), 4);
+        whole.truncate(61_479);
+        assert_eq!(same(&whole), 4);
+    }
 }
 
 #[test]

@@ -69,38 +69,70 @@ fn try_all<T: Clone>(good: &T, wrongs: &[Wrong<T>], mut answers: impl FnMut(&T, 
     }
 }
 
-fn good_tape() -> Vec<u8> {
-    Tape::from_list(SLOTS, &LIST.concat()).expect("an accepted list").to_bytes()
+/// Also the same list in more slots, of which the tape is of edition 02.
+const WIDE_SLOTS: u32 = 72;
+
+fn tape_of(slots: u32) -> Vec<u8> {
+    Tape::from_list(slots, &LIST.concat()).expect("an accepted list").to_bytes()
 }
 
 /// Its pictures have 10 bytes and 45 heights.
 fn good_drawing() -> Drawing {
-    Drawing::new(good_tape(), Grid { sizes: [9, 5, 3], origins: [-300_000; 3], steps: [65_536; 3] })
+    drawing_of(SLOTS)
+}
+
+fn drawing_of(slots: u32) -> Drawing {
+    Drawing::new(tape_of(slots), Grid { sizes: [9, 5, 3], origins: [-300_000; 3], steps: [65_536; 3] })
+}
+
+/// A fault's value where the tape has another slot count: slots that it does not have, or has and never writes.
+fn fault_value(slots: u32, field: usize, value: i32) -> i32 {
+    let more = (slots - SLOTS) as i32;
+    if (1..=3).contains(&field) && (6..=64).contains(&value) { value + more } else { value }
+}
+
+/// A head with other counts and another edition.
+fn head(edition: u8, slots: u8, clauses: u16) -> impl Fn(&mut Vec<u8>) {
+    move |t: &mut Vec<u8>| {
+        (t[2], t[3]) = (edition, slots);
+        t[4..6].copy_from_slice(&clauses.to_le_bytes());
+    }
+}
+
+/// What can be wrong with the counts and the edition of a tape's head: 3.
+fn count_wrongs(slots: u32) -> Vec<Wrong<Vec<u8>>> {
+    let (edition, other) = if slots == SLOTS { (1, 2) } else { (2, 1) };
+    let own = slots as u8;
+    let mut heads = vec![(other, own, 5), (edition, 0, 5), (edition, 129, 5), (edition, own, 0), (edition, own, 6145)];
+    heads.push(if edition == 1 { (1, 65, 5) } else { (2, 64, 5) });
+    heads.push(if edition == 1 { (1, own, 1025) } else { (2, 64, 1024) });
+    heads.into_iter().map(|(edition, slots, clauses)| wrong(3, head(edition, slots, clauses))).collect()
 }
 
 /// What can be wrong with a tape's head and length: 1 to 4.
-fn head_wrongs() -> Vec<Wrong<Vec<u8>>> {
+fn head_wrongs(slots: u32) -> Vec<Wrong<Vec<u8>>> {
     let set = |at: usize, byte: u8| move |t: &mut Vec<u8>| t[at] = byte;
-    vec![
+    let mut wrongs = vec![
         wrong(1, |t: &mut Vec<u8>| t.truncate(7)),
         wrong(1, |t: &mut Vec<u8>| t.clear()),
         wrong(2, set(0, 0x55)),
         wrong(2, set(1, 0)),
-        wrong(2, set(2, 2)),
+        wrong(2, set(2, 0)),
+        wrong(2, set(2, 3)),
         wrong(2, set(6, 1)),
         wrong(2, set(7, 255)),
-        wrong(3, set(3, 0)),
-        wrong(3, set(3, 65)),
-        wrong(3, |t: &mut Vec<u8>| t[4..6].fill(0)),
-        wrong(3, |t: &mut Vec<u8>| t[4..6].copy_from_slice(&1025u16.to_le_bytes())),
+    ];
+    wrongs.extend(count_wrongs(slots));
+    wrongs.extend([
         wrong(4, |t: &mut Vec<u8>| t.push(0)),
         wrong(4, |t: &mut Vec<u8>| t.truncate(48)),
         wrong(4, set(4, 6)),
-    ]
+    ]);
+    wrongs
 }
 
 /// What can be wrong with a tape's clauses: 5 to 9, clause by clause.
-fn clause_wrongs() -> Vec<Wrong<Vec<u8>>> {
+fn clause_wrongs(slots: u32) -> Vec<Wrong<Vec<u8>>> {
     let mut wrongs = Vec::new();
     for clause in 2..5 {
         let at = 8 + 10 * clause;
@@ -109,7 +141,7 @@ fn clause_wrongs() -> Vec<Wrong<Vec<u8>>> {
         // a tape has one byte for an opcode or a slot
         let fits = |f: &&(usize, usize, i32, u8)| f.0 == clause && (f.1 == 4 || (0..256).contains(&f.2));
         for &(_, field, value, number) in CLAUSE_FAULTS.iter().filter(fits) {
-            let bytes = value.to_le_bytes();
+            let bytes = fault_value(slots, field, value).to_le_bytes();
             let len = if field == 4 { 4 } else { 1 };
             wrongs.push(wrong_at(number, clause, move |t: &mut Vec<u8>| {
                 t[at + 2 + field..at + 2 + field + len].copy_from_slice(&bytes[..len])
@@ -120,9 +152,9 @@ fn clause_wrongs() -> Vec<Wrong<Vec<u8>>> {
 }
 
 /// What can be wrong with the tape of a larger input.
-fn tape_wrongs<T: 'static>(tape: fn(&mut T) -> &mut Vec<u8>) -> Vec<Wrong<T>> {
+fn tape_wrongs<T: 'static>(slots: u32, tape: fn(&mut T) -> &mut Vec<u8>) -> Vec<Wrong<T>> {
     let of = |w: Wrong<Vec<u8>>| wrong_at(w.number, w.place as usize, move |t: &mut T| (w.put)(tape(t)));
-    head_wrongs().into_iter().chain(clause_wrongs()).map(of).collect()
+    head_wrongs(slots).into_iter().chain(clause_wrongs(slots)).map(of).collect()
 }
 
 /// What can be wrong with width, height and their axes, in a flat drawing and a solid: 10 and 11.
@@ -142,7 +174,16 @@ fn grid_wrongs<T: 'static>(grid: fn(&mut T) -> &mut Grid) -> Vec<Wrong<T>> {
 
 #[test]
 fn drawings() {
-    let mut wrongs = tape_wrongs(|d: &mut Drawing| &mut d.tape);
+    try_drawings(SLOTS);
+}
+
+#[test]
+fn drawings_of_edition_02() {
+    try_drawings(WIDE_SLOTS);
+}
+
+fn try_drawings(slots: u32) {
+    let mut wrongs = tape_wrongs(slots, |d: &mut Drawing| &mut d.tape);
     wrongs.extend(grid_wrongs(|d: &mut Drawing| &mut d.grid));
     wrongs.extend([
         wrong(12, |d: &mut Drawing| (d.flat, d.solid) = (9, 44)),
@@ -152,7 +193,7 @@ fn drawings() {
         wrong(13, |d: &mut Drawing| d.work = 0),
     ]);
     let mut noise = Random::seeded("drawings", 0x5EED_0020);
-    try_all(&good_drawing(), &wrongs, |drawing, expected| {
+    try_all(&drawing_of(slots), &wrongs, |drawing, expected| {
         let [full_flat, full_solid, tile_flat, tile_solid] =
             drawing.compare(&mut noise).unwrap_or_else(|e| panic!("{e}"));
         assert_eq!([tile_flat, tile_solid], [expected; 2], "{drawing:?}");
@@ -223,36 +264,41 @@ fn samples_at_the_ends() {
 
 #[test]
 fn unpacking() {
-    let mut wrongs = tape_wrongs(|u: &mut Unpacking| &mut u.tape);
-    wrongs.push(wrong(14, |u: &mut Unpacking| u.out += 1));
-    wrongs.push(wrong(14, |u: &mut Unpacking| u.out = 0));
     let mut noise = Random::seeded("unpacking", 0x5EED_0023);
-    try_all(&Unpacking::new(good_tape()), &wrongs, |unpacking, expected| {
-        assert_eq!(unpacking.compare(&mut noise), Ok((expected, 0)));
-    });
+    for slots in [SLOTS, WIDE_SLOTS] {
+        let mut wrongs = tape_wrongs(slots, |u: &mut Unpacking| &mut u.tape);
+        wrongs.push(wrong(14, |u: &mut Unpacking| u.out += 1));
+        wrongs.push(wrong(14, |u: &mut Unpacking| u.out = 0));
+        try_all(&Unpacking::new(tape_of(slots)), &wrongs, |unpacking, expected| {
+            assert_eq!(unpacking.compare(&mut noise), Ok((expected, 0)));
+        });
+    }
 }
 
-/// Packing checks 4 before 3.
+/// Packing checks 4 before 3, and lists are bound by the counts alone.
 #[test]
 fn packing() {
-    let mut wrongs = vec![
-        wrong(4, |p: &mut Packing| p.list.push(0)),
-        wrong(4, |p: &mut Packing| p.list.resize(3, 0)),
-        wrong(3, |p: &mut Packing| p.slots = 0),
-        wrong(3, |p: &mut Packing| p.slots = 65),
-        wrong(3, |p: &mut Packing| p.slots = 256 + SLOTS),
-        wrong(3, |p: &mut Packing| p.list.clear()),
-        wrong(3, |p: &mut Packing| p.list = [0; 5 * 1025].to_vec()),
-    ];
-    for (clause, field, value, number) in CLAUSE_FAULTS {
-        wrongs.push(wrong_at(number, clause, move |p: &mut Packing| p.list[5 * clause + field] = value));
-    }
-    wrongs.push(wrong(14, |p: &mut Packing| p.out -= 1));
-    wrongs.push(wrong(14, |p: &mut Packing| p.out += 10));
     let mut noise = Random::seeded("packing", 0x5EED_0024);
-    try_all(&Packing::new(SLOTS, LIST.concat()), &wrongs, |packing, expected| {
-        assert_eq!(packing.compare(&mut noise), Ok(expected), "{packing:?}");
-    });
+    for slots in [SLOTS, WIDE_SLOTS] {
+        let mut wrongs = vec![
+            wrong(4, |p: &mut Packing| p.list.push(0)),
+            wrong(4, |p: &mut Packing| p.list.resize(3, 0)),
+            wrong(3, |p: &mut Packing| p.slots = 0),
+            wrong(3, |p: &mut Packing| p.slots = 129),
+            wrong(3, |p: &mut Packing| p.slots += 256),
+            wrong(3, |p: &mut Packing| p.list.clear()),
+            wrong(3, |p: &mut Packing| p.list = [0; 5 * 6145].to_vec()),
+        ];
+        for (clause, field, value, number) in CLAUSE_FAULTS {
+            let value = fault_value(slots, field, value);
+            wrongs.push(wrong_at(number, clause, move |p: &mut Packing| p.list[5 * clause + field] = value));
+        }
+        wrongs.push(wrong(14, |p: &mut Packing| p.out -= 1));
+        wrongs.push(wrong(14, |p: &mut Packing| p.out += 10));
+        try_all(&Packing::new(slots, LIST.concat()), &wrongs, |packing, expected| {
+            assert_eq!(packing.compare(&mut noise), Ok(expected), "{packing:?}");
+        });
+    }
 }
 
 #[test]
@@ -289,7 +335,7 @@ fn files_of_great_sizes() {
 #[test]
 fn noise_as_a_tape() {
     let mut r = Random::seeded("noise_as_a_tape", 0x5EED_0026);
-    for len in (0..200).chain([10_248, 1_000_000]) {
+    for len in (0..200).chain([10_248, 61_448, 1_000_000]) {
         let tape = r.bytes(len);
         let drawing = Drawing { tape: tape.clone(), ..good_drawing() };
         let numbers = drawing.compare(&mut r).map(|a| a.map(|a| a.number)).unwrap_or_else(|e| panic!("{e}"));
@@ -317,7 +363,7 @@ impl Input {
 }
 
 /// The program's order: 15, 16, the tape, then the grid.
-fn program_wrongs() -> Vec<Wrong<Input>> {
+fn program_wrongs(slots: u32) -> Vec<Wrong<Input>> {
     let mut wrongs = vec![
         wrong(15, |i: &mut Input| i.cut = 0),
         wrong(15, |i: &mut Input| i.cut = 31),
@@ -326,12 +372,12 @@ fn program_wrongs() -> Vec<Wrong<Input>> {
         wrong(16, |i: &mut Input| (i.grid.sizes[0], i.grid.sizes[2]) = (129, 1)),
         wrong(16, |i: &mut Input| (i.grid.sizes[1], i.grid.sizes[2]) = (600, 65_535)),
     ];
-    wrongs.extend(tape_wrongs(|i: &mut Input| &mut i.tape));
+    wrongs.extend(tape_wrongs(slots, |i: &mut Input| &mut i.tape));
     wrongs
 }
 
-fn try_program(depth: u32, wrongs: &[Wrong<Input>]) {
-    let Drawing { tape, mut grid, .. } = good_drawing();
+fn try_program(slots: u32, depth: u32, wrongs: &[Wrong<Input>]) {
+    let Drawing { tape, mut grid, .. } = drawing_of(slots);
     grid.sizes[2] = depth;
     let good = Input { grid, tape, mark: [0x47, 0x52], cut: usize::MAX };
     assert_eq!(program::compare(&good.bytes()).map(|a| a.number), Ok(0));
@@ -346,19 +392,20 @@ fn try_program(depth: u32, wrongs: &[Wrong<Input>]) {
 
 #[test]
 fn program_flat() {
-    let mut wrongs = program_wrongs();
+    let mut wrongs = program_wrongs(SLOTS);
     wrongs.extend(grid_wrongs(|i: &mut Input| &mut i.grid));
-    try_program(0, &wrongs);
+    try_program(SLOTS, 0, &wrongs);
 }
 
+/// On a tape of edition 02.
 #[test]
 fn program_solid() {
-    let mut wrongs = program_wrongs();
+    let mut wrongs = program_wrongs(WIDE_SLOTS);
     wrongs.extend([
         wrong(10, |i: &mut Input| i.grid.sizes[0] = 0),
         wrong(10, |i: &mut Input| i.grid.sizes[2] = 513),
         wrong(11, |i: &mut Input| i.grid.steps[2] = 0),
         wrong(11, |i: &mut Input| i.grid.origins[1] = i32::MIN),
     ]);
-    try_program(3, &wrongs);
+    try_program(WIDE_SLOTS, 3, &wrongs);
 }

@@ -1,7 +1,9 @@
 //! The example parts. y runs downward in a picture, and a solid is seen from above, from the side of great z.
 
 mod bracket;
+mod chart;
 mod flange;
+mod font;
 mod gear;
 mod housing;
 mod lattice;
@@ -19,5 +21,6 @@ pub fn designs() -> Vec<Design> {
         lattice::lattice(),
         tray::tray(),
         flange::flange(),
+        chart::chart(),
     ]
 }

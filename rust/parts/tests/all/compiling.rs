@@ -1,7 +1,7 @@
 //! A tape tells what its formula tells, within its slots.
 
 use crate::common::{Random, value_at};
-use layers::{Clause, MAX_SLOTS, Opcode, Tape};
+use layers::{Clause, FIRST_EDITION_SLOTS, MAX_SLOTS, Opcode, Tape};
 use parts::examples::designs;
 use parts::formula::{Formula, Id};
 use parts::slots::{TooBig, compile};
@@ -17,7 +17,8 @@ fn parts_have_the_values_of_their_formulas() {
     for design in designs() {
         let mut formula = Formula::default();
         let result = design.shape.formula(&mut formula);
-        for slots in [MAX_SLOTS, 32] {
+        // the chart needs some ninety
+        for slots in [MAX_SLOTS, if design.name == "chart" { 96 } else { 32 }] {
             let tape = compile(&formula, result, slots).unwrap();
             for reach in [50 << 16, 50 << 16, 300 << 16, i32::MAX] {
                 for sample in [0; 100].map(|_| random.sample(reach)) {
@@ -64,11 +65,25 @@ fn tangled_formulas_keep_their_values_in_few_slots() {
     }
 }
 
+/// Every part but the chart is of edition 1, and does with half of its slots.
 #[test]
-fn half_the_slots_do_for_every_part() {
-    for design in designs() {
-        assert!(design.compiled(MAX_SLOTS / 2).unwrap().slots() <= MAX_SLOTS / 2);
+fn half_the_slots_do_for_every_small_part() {
+    let half = FIRST_EDITION_SLOTS / 2;
+    for design in designs().iter().filter(|design| design.name != "chart") {
+        assert_eq!(design.part().tape.edition(), 1, "{}", design.name);
+        assert!(design.compiled(half).unwrap().slots() <= half, "{}", design.name);
     }
+}
+
+/// The chart needs more clauses than edition 1 has, and more slots, however many clauses it may take.
+#[test]
+fn the_chart_needs_edition_2() {
+    let designs = designs();
+    let chart = designs.iter().find(|design| design.name == "chart").unwrap();
+    assert_eq!(chart.compiled(FIRST_EDITION_SLOTS), Err(TooBig::Slots));
+    let tape = chart.part().tape;
+    assert_eq!(tape.edition(), 2);
+    assert!(tape.slots() >= 80 && (5900..=6144).contains(&tape.clauses().len()));
 }
 
 /// x + 1 and x − 1 multiplied, and so on with 2, 3 ...: both factors wait for each other.
@@ -90,10 +105,10 @@ fn what_does_not_fit_is_turned_down() {
     assert_eq!(compile(&formula, result, 2), Err(TooBig::Slots));
     assert!(compile(&formula, result, 4).is_ok());
     // One load of x, five clauses a product.
-    let (formula, result) = products(204);
-    assert_eq!(compile(&formula, result, MAX_SLOTS).unwrap().clauses().len(), 1021);
-    let (formula, result) = products(205);
-    assert_eq!(compile(&formula, result, MAX_SLOTS), Err(TooBig::Clauses(1026)));
+    let (formula, result) = products(1228);
+    assert_eq!(compile(&formula, result, MAX_SLOTS).unwrap().clauses().len(), 6141);
+    let (formula, result) = products(1229);
+    assert_eq!(compile(&formula, result, MAX_SLOTS), Err(TooBig::Clauses(6146)));
 }
 
 #[test]

@@ -41,7 +41,7 @@ fn no_other_files_are_there() {
 }
 
 #[test]
-fn lettering_is_near_the_limit() {
+fn lettering_is_near_the_limit_of_edition_1() {
     let lettering = all().into_iter().find(|part| part.name == "lettering").unwrap();
     assert!((950..=1024).contains(&lettering.clauses()));
 }

@@ -13,17 +13,18 @@ use Rattle.flat_tiles.proofs.eights.eight_row.Statement.{statement}
 use Rattle.flat_tiles.proofs.eights.eight_row.Tie as tie
 
 abbrev Inv-loop : tie.InvT-loop
-Inv-loop code grid parent y picture₀ choices₀ second₀ count₀ x₀ picture choices second count x =
+Inv-loop whole code places grid parent y picture₀ work₀ second₀ secondplaces₀ count₀ x₀ picture work second secondplaces count x =
     AtColumn false 8 8 65 code grid below8 (parent .x) (parent .xend) y 0 picture₀ picture count x
-    × (length choices ≡ length choices₀)
+    × (length work ≡ length work₀)
     × (length second ≡ length second₀)
+    × (length secondplaces ≡ length secondplaces₀)
 
 abbrev μ-loop : tie.MeasureT-loop
-μ-loop code grid parent y picture₀ choices₀ second₀ count₀ x₀ picture choices second count x = parent .xend - x
+μ-loop whole code places grid parent y picture₀ work₀ second₀ secondplaces₀ count₀ x₀ picture work second secondplaces count x = parent .xend - x
 
 -- The places: the start, before the loop and at its test; in a turn, after the call, and past the loop.
-abbrev begun : tie.After-slice-known3 Inv-loop μ-loop → tie.Start Inv-loop μ-loop
-begun c = c .before .before .before .before
+abbrev begun : tie.After-slice-known4 Inv-loop μ-loop → tie.Start Inv-loop μ-loop
+begun c = c .before .before .before .before .before .before .before
 
 abbrev start : tie.At-loop Inv-loop μ-loop → tie.Start Inv-loop μ-loop
 start c = begun (c .before)
@@ -31,11 +32,11 @@ start c = begun (c .before)
 abbrev at-test : tie.Then1 Inv-loop μ-loop → tie.At-loop Inv-loop μ-loop
 at-test c = c .before .before
 
-abbrev in-turn : tie.After-visit-eight-arg3 Inv-loop μ-loop → tie.Then1 Inv-loop μ-loop
-in-turn c = c .before .before .before
+abbrev in-turn : tie.After-visit-eight-arg4 Inv-loop μ-loop → tie.Then1 Inv-loop μ-loop
+in-turn c = c .before .before .before .before
 
-abbrev called : tie.After-slice-known6 Inv-loop μ-loop → tie.After-visit-eight Inv-loop μ-loop
-called c = c .before .before .before .before .before .before
+abbrev called : tie.After-slice-known8 Inv-loop μ-loop → tie.After-visit-eight Inv-loop μ-loop
+called c = c .before .before .before .before .before .before .before .before
 
 abbrev past : tie.Else1 Inv-loop μ-loop → tie.At-loop Inv-loop μ-loop
 past c = c .before .before
@@ -43,7 +44,7 @@ past c = c .before .before
 loop-holds : tie.Need-loop-holds Inv-loop μ-loop
 loop-holds c =
     let p = begun c .pre .1 in
-    (row-begins _ (omega arith) (omega arith), refl, refl)
+    (row-begins _ (omega arith) (omega arith), refl, refl, refl)
 
 visit-eight-requires : tie.Need-visit-eight-requires Inv-loop μ-loop
 visit-eight-requires c κs =
@@ -57,7 +58,7 @@ visit-eight-requires c κs =
         r,
         (
           child-in _ _ _ (p .0) (t .if1 .taken) (p .1 .0 .2) (omega (arith, p .0 .zs)),
-          (omega (arith, i .0 .place .place, p .1 .0 .1), (omega arith, omega arith)),
+          (omega (arith, i .0 .place .place, p .1 .0 .1), (omega arith, omega arith, omega arith)),
         ),
       ),
     )
@@ -67,7 +68,7 @@ add-count c =
     let t = in-turn (called c .before) in
     let l = at-test t in
     let u = up-sum (l .loop .inv .0 .place) (t .if1 .taken) (called c .visit-eight .ensures .bound) in
-    omega (arith, sound-length (start l .pre .0), u)
+    omega (arith, sound-length (start l .pre .0 .sound), u)
 
 add-x : tie.Need-add-x Inv-loop μ-loop
 add-x c =
@@ -84,9 +85,9 @@ loop-again c =
     let v = called c .visit-eight in
     let t = in-turn (called c .before) in
     let i = at-test t .loop .inv in
-    let kept = v .kept .1 .1 .1 .1 in
+    let kept = v .kept .1 .1 .1 .1 .1 .1 in
     let again = row-again (i .0) (t .if1 .taken) (v .ensures) (kept .0) in
-    (again, kept .1 .0 ∙ i .1, kept .1 .1 .0 ∙ i .2)
+    (again, kept .1 .0 ∙ i .1, kept .1 .1 .0 ∙ i .2, kept .1 .1 .1 .0 ∙ i .3)
 
 same-length : tie.Need-same-length Inv-loop μ-loop
 same-length c = past c .loop .inv .0 .place .size
@@ -96,6 +97,9 @@ same-length-2 c = past c .loop .inv .1
 
 same-length-3 : tie.Need-same-length-3 Inv-loop μ-loop
 same-length-3 c = past c .loop .inv .2
+
+same-length-4 : tie.Need-same-length-4 Inv-loop μ-loop
+same-length-4 c = past c .loop .inv .3
 
 returns : tie.Need-returns Inv-loop μ-loop
 returns c = row-done (past c .loop .inv .0) (omega arith) (omega arith)
@@ -115,4 +119,5 @@ eight-row-spec =
     same-length
     same-length-2
     same-length-3
+    same-length-4
     returns)

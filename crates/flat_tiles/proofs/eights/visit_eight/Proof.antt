@@ -16,26 +16,29 @@ use Rattle.flat_tiles.proofs.eights.visit_eight.Tie as tie
 
 -- The places: the start, before and after the cell is made; the look, from either arm; in the arm of a cut the call for
 -- the children, and what is after it.
-abbrev begun : tie.After-slice-known3 → tie.Start
-begun c = c .before .before .before .before
+abbrev begun : tie.After-slice-known4 → tie.Start
+begun c = c .before .before .before .before .before .before .before
 
 abbrev start : tie.After-cell-at → tie.Start
 start c = begun (c .before)
 
 abbrev with-cell : tie.After-look → tie.After-cell-at
-with-cell c = c .before .before .before .before
+with-cell c = c .before .before .before .before .before .before
 
 abbrev done : tie.After-known-told → tie.After-look
-done c = c .before .before .before .before .before .before .before .before .before
+done c = c .before .before .before .before .before .before .before .before .before .before .before
 
 abbrev looked : tie.After-known-told2 → tie.After-look
-looked c = c .before .before .before .before .before .before .before .before .before
+looked c = c .before .before .before .before .before .before .before .before .before .before .before
 
 abbrev in-cut : tie.After-sample-rows-arg → tie.After-known-told2
 in-cut c = c .before .before .before
 
-abbrev visited : tie.After-slice-known7 → tie.After-sample-rows
+abbrev visited : tie.After-slice-known9 → tie.After-sample-rows
 visited c = c .before .before
+
+abbrev made-cell : tie.After-look-arg4 → tie.After-cell-at
+made-cell c = c .before .before .before .before .before
 
 -- What is known at them.
 made : (c : tie.After-cell-at)
@@ -48,20 +51,32 @@ begins c = omega (arith, ap (λ (q : Region). q .i) (made c .same), start c .pre
 opened : (c : tie.After-known-told2)
     → let j = looked c in
     let a = start (with-cell j) .args in
-    Opened false (a .code .now) (a .grid) (regionIn (with-cell j .cell-at .result)) (a .picture .now)
-    (j .look .last .1 .1 .1 .0) (j .look .last .1 .1 .1 .1 .1 .0) (c .before .seen2 .given .0 .0)
-opened c = open-of false _ _ _ _ _ _ (looked c .look .ensures) (c .before .seen2 .given .1)
+    Opened false (a .whole .now) (a .code .now) (a .places .now) (a .grid) (regionIn (with-cell j .cell-at .result)) (a .picture .now)
+    (j .look .last .1 .1 .1 .1 .1 .0) (j .look .last .1 .1 .1 .1 .1 .1 .0) (j .look .last .1 .1 .1 .1 .1 .1 .1 .1 .0)
+    (j .look .last .1 .1 .1 .1 .1 .1 .1 .1 .1 .0) (c .before .seen2 .given .0 .0)
+opened c = open-of false _ _ _ _ _ _ _ _ _ _ (looked c .look .ensures) (c .before .seen2 .given .1)
 
 cell-at-requires : tie.Need-cell-at-requires
 cell-at-requires c κs =
     let p = begun c .pre .1 in (ready-small (p .0), (p .1 .0, (omega arith, omega arith)))
 
+mark-room-requires : tie.Need-mark-room-requires
+mark-room-requires c κs =
+    start c .pre .0 .kept .kept .within
+
+add-base : tie.Need-add-base
+add-base c =
+    let p = start (c .before) .pre in
+    let w = p .0 .kept .kept .within in
+    omega (arith, c .mark-room .ensures)
+
 look-requires : tie.Need-look-requires
 look-requires c κs =
-    let k = c .before .before .before in
+    let k = made-cell c in
     let p = start k .pre in
     let r = p .1 .1 .1 .1 in
-    (p .0, (p .1 .0, (made k .ok, (begins k, (omega arith, omega arith)))))
+    let m = c .before .before .before .before .mark-room .ensures in
+    (p .0, (p .1 .0, (made k .ok, (begins k, ((omega arith, omega (arith, m)), (omega arith, omega arith))))))
 
 enum-known-seen : tie.Need-enum-known-seen
 enum-known-seen c = search needs
@@ -74,7 +89,7 @@ mul-short c =
     let j = looked c in
     let o = opened c .cut .start in
     let g = start (with-cell j) .good in
-    omega (arith, j .look .kept .1 .1 .1 .1 .1 .0)
+    omega (arith, j .look .kept .1 .1 .1 .1 .1 .1 .1 .1 .0)
 
 sub-short : tie.Need-sub-short
 sub-short c = opened c .cut .start
@@ -92,10 +107,10 @@ sample-rows-requires c κs =
     let j = looked t in
     let k = with-cell j in
     let p = start k .pre in
-    let short = open-sound (p .0) (opened t) in
+    let short = open-sound (p .0 .sound) (opened t) in
     let side = ap (λ (q : Region). q .long) (made k .same) in (
-      search (short, p .0),
-      (ready-again (p .1 .0) (j .look .kept .1 .1 .1 .0), (made k .ok, (side, begins k))),
+      search (short, p .0 .sound),
+      (ready-again (p .1 .0) (j .look .kept .1 .1 .1 .1 .1 .0), (made k .ok, (side, begins k))),
     )
 
 add-result : tie.Need-add-result
@@ -103,7 +118,7 @@ add-result c =
     let u = visited c in
     let t = in-cut (u .before) in
     let s = start (with-cell (looked t)) in
-    omega (arith, sound-length (s .pre .0), open-fewer (s .pre .0) (opened t), u .sample-rows .ensures .bound)
+    omega (arith, sound-length (s .pre .0 .sound), open-fewer (s .pre .0 .sound) (opened t), u .sample-rows .ensures .bound)
 
 same-length : tie.Need-same-length
 same-length c = search needs
@@ -118,7 +133,7 @@ returns : tie.Need-returns
 returns c =
     let j = done c in
     done-visits 65 1 [] (made (with-cell j) .same) (omega arith)
-    (done-of false _ _ _ _ _ _ (j .look .ensures) (c .before .seen .given .1))
+    (done-of false _ _ _ _ _ _ _ _ _ _ (j .look .ensures) (c .before .seen .given .1))
 
 same-length-4 : tie.Need-same-length-4
 same-length-4 c = search needs
@@ -134,14 +149,22 @@ returns-2 c =
     let u = visited c in
     let t = in-cut (u .before) in
     let k = with-cell (looked t) in
-    open-rows 1 8 (start k .pre .0) (omega arith) (omega arith) refl (made k) (opened t) [] 64
+    open-rows 1 8 (start k .pre .0 .sound) (omega arith) (omega arith) refl (made k) (opened t) [] 64
     (u .sample-rows .ensures)
+
+same-length-7 : tie.Need-same-length-7
+same-length-7 c = search needs
+
+same-length-8 : tie.Need-same-length-8
+same-length-8 c = search needs
 
 pub visit-eight-spec : {M : Type 1} → statement M
 visit-eight-spec =
     tie.close
     (tie.spec
     cell-at-requires
+    mark-room-requires
+    add-base
     look-requires
     enum-known-seen
     enum-known-seen-2
@@ -154,8 +177,10 @@ visit-eight-spec =
     same-length
     same-length-2
     same-length-3
-    returns
     same-length-4
+    returns
     same-length-5
     same-length-6
+    same-length-7
+    same-length-8
     returns-2)

@@ -2,20 +2,21 @@
 use mathlib.Core.Path.{refl}
 use mathlib.Core.Bool.{false}
 use native.Mathlib.Omega.{arith}
+use Rattle.shortening.proofs.KeptLaws.{words-fewer}
 use Rattle.picture.specs.Shapes.{gridIn}
 use Rattle.walk.specs.Cells.{regionIn}
 use Rattle.walk.specs.Draws.{Hidden}
 use Rattle.walk.specs.Walks.{Shown}
 use Rattle.walk.proofs.Draws.{seen-flat}
-use Rattle.walk.proofs.LookLaws.{sound-runs, full-of, empty-of, mixed-of, done-full, done-empty, opened}
+use Rattle.walk.proofs.LookLaws.{sound-runs, run-chosen, full-of, empty-of, mixed-of, done-full, done-empty, opened}
 use borrow.Author.Needs.{needs}
 use Rattle.flat_tiles.proofs.look.look.Statement.{statement}
 use Rattle.flat_tiles.proofs.look.look.Tie as tie
 
 -- The places: the start, before and after the box is made, that, once its range is there, and that, once there is a
 -- verdict.
-abbrev begun : tie.After-slice-known3 → tie.Start
-begun c = c .before .before .before .before
+abbrev begun : tie.After-slice-known4 → tie.Start
+begun c = c .before .before .before .before .before .before .before
 
 abbrev start : tie.After-flat-bounds → tie.Start
 start c = begun (c .before)
@@ -25,6 +26,12 @@ with-box c = c .before .before
 
 abbrev ranged : tie.After-verdict-on → tie.After-run-ranges
 ranged c = c .before .before .before
+
+abbrev lent : tie.After-cut-arg3 → tie.After-verdict-on
+lent c = c .before .before .before .before .before
+
+abbrev after-cut : tie.After-slice-known9 → tie.After-cut
+after-cut c = c .before .before .before .before .before .before
 
 -- Nothing is hidden in a flat drawing.
 seen : (c : tie.After-flat-bounds)
@@ -39,7 +46,9 @@ run-ranges-requires : tie.Need-run-ranges-requires
 run-ranges-requires c κs =
     let b = c .before in
     let p = start b .pre in
-    (sound-runs (p .0), (b .flat-bounds .ensures .ok, p .1 .1 .1 .1 .0))
+    let k = words-fewer (p .0 .kept) in
+    let r = p .1 .1 .1 .1 .0 in
+    (sound-runs (p .0 .sound), (b .flat-bounds .ensures .ok, omega arith))
 
 verdict-on-requires : tie.Need-verdict-on-requires
 verdict-on-requires c κs = search needs
@@ -57,12 +66,21 @@ enum-told-2 c = search needs
 enum-told-3 : tie.Need-enum-told-3
 enum-told-3 c = search needs
 
-shorten-requires : tie.Need-shorten-requires
-shorten-requires c κs =
-    let j = ranged (c .before .before .before .before) in
+cut-requires : tie.Need-cut-requires
+cut-requires c κs =
+    let j = ranged (lent c) in
     let s = start (with-box j) in
     let r = s .pre .1 .1 .1 .1 in
-    (sound-runs (s .pre .0), (omega (arith, j .run-ranges .kept .1 .1 .0), omega arith))
+    let h = j .run-ranges .kept .1 .1 .0 in (
+      sound-runs (s .pre .0 .sound),
+      (
+        s .pre .0 .kept,
+        (
+          run-chosen (s .pre .0 .sound) (j .run-ranges .ensures),
+          ((r .0 .0, omega (arith, h, r .0 .1)), (r .1)),
+        ),
+      ),
+    )
 
 same-length : tie.Need-same-length
 same-length c = search needs
@@ -99,14 +117,16 @@ same-length-5 c = search needs
 
 returns-3 : tie.Need-returns-3
 returns-3 c =
-    let shortened = c .before .before in
-    let told = shortened .before .before .before in
-    let v = told .before .before in
+    let k = after-cut c in
+    let told = k .before .before .before .before in
+    let v = lent (k .before) in
     let j = ranged v in
     let b = with-box j in
     opened false (b .flat-bounds .ensures) (seen b) (j .run-ranges .ensures)
-    (mixed-of _ (v .verdict-on .ensures) (told .enum-told3 .given .1)) (shortened .shorten .ensures)
-    (shortened .shorten .kept .1 .1 .0)
+    (mixed-of _ (v .verdict-on .ensures) (told .enum-told3 .given .1)) (k .cut .ensures)
+
+same-length-6 : tie.Need-same-length-6
+same-length-6 c = search needs
 
 pub look-spec : {M : Type 1} → statement M
 look-spec =
@@ -119,7 +139,7 @@ look-spec =
     fill-requires
     enum-told-2
     enum-told-3
-    shorten-requires
+    cut-requires
     same-length
     same-length-2
     returns
@@ -127,4 +147,5 @@ look-spec =
     returns-2
     same-length-4
     same-length-5
+    same-length-6
     returns-3)

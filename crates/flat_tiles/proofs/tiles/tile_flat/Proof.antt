@@ -10,13 +10,16 @@ use Rattle.flat_tiles.proofs.tiles.tile_flat.Tie as tie
 
 -- The places: the start, once the picture is clear, and that, before and after the tiles.
 abbrev start : tie.After-clear → tie.Start
-start c = c .before .before .before .before .before
+start c = c .before .before .before .before .before .before .before .before .before .before
 
-abbrev cleared : tie.After-tiles-in-arg2 → tie.After-clear
-cleared c = c .before .before .before .before
+abbrev cleared : tie.After-tiles-in-arg7 → tie.After-clear
+cleared c = c .before .before .before .before .before .before .before .before .before
 
-abbrev drawn : tie.After-slice-known5 → tie.After-tiles-in
-drawn c = c .before .before .before .before
+abbrev drawn : tie.After-slice-known15 → tie.After-tiles-in
+drawn c = c .before .before .before .before .before .before .before .before .before .before .before .before .before .before
+
+abbrev painted : tie.After-slice-known15 → tie.After-slice-known10
+painted c = c .before .before .before .before .before .before .before .before .before .before
 
 clear-requires : tie.Need-clear-requires
 clear-requires c κs = search needs
@@ -26,7 +29,7 @@ tiles-in-requires c κs =
     let u = cleared c in
     let p = start u .pre in
     let r = ready-again (p .1 .0) (u .clear .kept .0) in
-    (p .0, (r, (record { start = refl; columns = omega arith; rows = omega arith }, p .1 .1)))
+    (p .0, (r, (record { start = refl; columns = omega arith; rows = omega arith }, (p .1 .1 .0, p .1 .1 .1))))
 
 same-length : tie.Need-same-length
 same-length c = search needs
@@ -34,13 +37,28 @@ same-length c = search needs
 same-length-2 : tie.Need-same-length-2
 same-length-2 c = search needs
 
+same-length-3 : tie.Need-same-length-3
+same-length-3 c = search needs
+
+same-length-4 : tie.Need-same-length-4
+same-length-4 c = search needs
+
+same-length-5 : tie.Need-same-length-5
+same-length-5 c = search needs
+
+same-length-6 : tie.Need-same-length-6
+same-length-6 c = search needs
+
+same-length-7 : tie.Need-same-length-7
+same-length-7 c = search needs
+
 returns : tie.Need-returns
 returns c =
     let u = drawn c in
     let v = cleared (u .before) in
     let r = start v .pre .1 .0 in
     folds-walked (r .fault) (u .tiles-in .ensures) (v .clear .ensures ∙ ap (λ n. replicate n 0) (r .size))
-    (λ j. c .before .before .slice-known4 .given j .fits)
+    (λ j. painted c .slice-known10 .given j .fits)
 
 pub tile-flat-spec : {M : Type 1} → statement M
-tile-flat-spec = tie.close (tie.spec clear-requires tiles-in-requires same-length same-length-2 returns)
+tile-flat-spec = tie.close (tie.spec clear-requires tiles-in-requires same-length same-length-2 same-length-3 same-length-4 same-length-5 same-length-6 same-length-7 returns)

@@ -14,18 +14,20 @@ use Rattle.flat_tiles.proofs.tiles.tile_row.Statement.{statement}
 use Rattle.flat_tiles.proofs.tiles.tile_row.Tie as tie
 
 abbrev Inv-loop : tie.InvT-loop
-Inv-loop code grid rect y picture₀ choices₀ first₀ second₀ count₀ x₀ picture choices first second count x =
-    AtColumn false 64 8 flatBound code grid below64 (rect .x) (rect .xend) y 0 picture₀ picture count x
-    × (length choices ≡ length choices₀)
+Inv-loop whole places grid rect y picture₀ work₀ first₀ firstplaces₀ second₀ secondplaces₀ count₀ x₀ picture work first firstplaces second secondplaces count x =
+    AtColumn false 64 8 flatBound whole grid below64 (rect .x) (rect .xend) y 0 picture₀ picture count x
+    × (length work ≡ length work₀)
     × (length first ≡ length first₀)
+    × (length firstplaces ≡ length firstplaces₀)
     × (length second ≡ length second₀)
+    × (length secondplaces ≡ length secondplaces₀)
 
 abbrev μ-loop : tie.MeasureT-loop
-μ-loop code grid rect y picture₀ choices₀ first₀ second₀ count₀ x₀ picture choices first second count x = rect .xend - x
+μ-loop whole places grid rect y picture₀ work₀ first₀ firstplaces₀ second₀ secondplaces₀ count₀ x₀ picture work first firstplaces second secondplaces count x = rect .xend - x
 
 -- The places: the start, before the loop and at its test; in a turn, after the call, and past the loop.
-abbrev begun : tie.After-slice-known4 Inv-loop μ-loop → tie.Start Inv-loop μ-loop
-begun c = c .before .before .before .before .before
+abbrev begun : tie.After-slice-known6 Inv-loop μ-loop → tie.Start Inv-loop μ-loop
+begun c = c .before .before .before .before .before .before .before .before
 
 abbrev start : tie.At-loop Inv-loop μ-loop → tie.Start Inv-loop μ-loop
 start c = begun (c .before)
@@ -33,11 +35,11 @@ start c = begun (c .before)
 abbrev at-test : tie.Then1 Inv-loop μ-loop → tie.At-loop Inv-loop μ-loop
 at-test c = c .before .before
 
-abbrev in-turn : tie.After-visit-tile-arg4 Inv-loop μ-loop → tie.Then1 Inv-loop μ-loop
-in-turn c = c .before .before .before .before
+abbrev in-turn : tie.After-visit-tile-arg6 Inv-loop μ-loop → tie.Then1 Inv-loop μ-loop
+in-turn c = c .before .before .before .before .before .before
 
-abbrev called : tie.After-slice-known8 Inv-loop μ-loop → tie.After-visit-tile Inv-loop μ-loop
-called c = c .before .before .before .before .before .before .before .before
+abbrev called : tie.After-slice-known12 Inv-loop μ-loop → tie.After-visit-tile Inv-loop μ-loop
+called c = c .before .before .before .before .before .before .before .before .before .before .before .before
 
 abbrev past : tie.Else1 Inv-loop μ-loop → tie.At-loop Inv-loop μ-loop
 past c = c .before .before
@@ -46,7 +48,7 @@ loop-holds : tie.Need-loop-holds Inv-loop μ-loop
 loop-holds c =
     let p = begun c .pre .1 in
     let d = ready-small (p .0) in
-    (row-begins _ (omega arith) (omega arith), refl, refl, refl)
+    (row-begins _ (omega arith) (omega arith), refl, refl, refl, refl, refl)
 
 visit-tile-requires : tie.Need-visit-tile-requires Inv-loop μ-loop
 visit-tile-requires c κs =
@@ -60,7 +62,7 @@ visit-tile-requires c κs =
         r,
         (
           record { x-in = omega (arith, t .if1 .taken); y-in = omega arith; z-in = omega arith },
-          (omega (arith, i .0 .place .place, p .0 .start), (omega arith, omega arith, omega arith)),
+          (omega (arith, i .0 .place .place, p .0 .start), (omega arith, omega arith, omega arith, omega arith, omega arith)),
         ),
       ),
     )
@@ -70,7 +72,7 @@ add-count c =
     let t = in-turn (called c .before) in
     let l = at-test t in
     let u = up-sum (l .loop .inv .0 .place) (t .if1 .taken) (called c .visit-tile .ensures .bound) in
-    omega (arith, sound-length (start l .pre .0), u)
+    omega (arith, sound-length (start l .pre .0 .sound), u)
 
 add-x : tie.Need-add-x Inv-loop μ-loop
 add-x c =
@@ -87,9 +89,15 @@ loop-again c =
     let v = called c .visit-tile in
     let t = in-turn (called c .before) in
     let i = at-test t .loop .inv in
-    let kept = v .kept .1 .1 .1 .1 in
-    let again = row-again (i .0) (t .if1 .taken) (v .ensures) (kept .0) in
-    (again, kept .1 .0 ∙ i .1, kept .1 .1 .0 ∙ i .2, kept .1 .1 .1 .0 ∙ i .3)
+    let kept = v .kept .1 .1 .1 .1 .1 in
+    let again = row-again (i .0) (t .if1 .taken) (v .ensures) (kept .0) in (
+      again,
+      kept .1 .0 ∙ i .1,
+      kept .1 .1 .0 ∙ i .2,
+      kept .1 .1 .1 .0 ∙ i .3,
+      kept .1 .1 .1 .1 .0 ∙ i .4,
+      kept .1 .1 .1 .1 .1 .0 ∙ i .5,
+    )
 
 same-length : tie.Need-same-length Inv-loop μ-loop
 same-length c = past c .loop .inv .0 .place .size
@@ -102,6 +110,12 @@ same-length-3 c = past c .loop .inv .2
 
 same-length-4 : tie.Need-same-length-4 Inv-loop μ-loop
 same-length-4 c = past c .loop .inv .3
+
+same-length-5 : tie.Need-same-length-5 Inv-loop μ-loop
+same-length-5 c = past c .loop .inv .4
+
+same-length-6 : tie.Need-same-length-6 Inv-loop μ-loop
+same-length-6 c = past c .loop .inv .5
 
 returns : tie.Need-returns Inv-loop μ-loop
 returns c = row-done (past c .loop .inv .0) (omega arith) (omega arith)
@@ -122,4 +136,6 @@ tile-row-spec =
     same-length-2
     same-length-3
     same-length-4
+    same-length-5
+    same-length-6
     returns)

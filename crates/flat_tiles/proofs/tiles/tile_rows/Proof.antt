@@ -14,19 +14,21 @@ use Rattle.flat_tiles.proofs.tiles.tile_rows.Statement.{statement}
 use Rattle.flat_tiles.proofs.tiles.tile_rows.Tie as tie
 
 abbrev Inv-loop : tie.InvT-loop
-Inv-loop code grid rect picture₀ choices₀ first₀ second₀ count₀ y₀ picture choices first second count y =
-    AtRow false 64 8 (8 * flatBound) code grid below64 (rect .x) (rect .xend) (rect .y) (rect .yend) 0
+Inv-loop whole places grid rect picture₀ work₀ first₀ firstplaces₀ second₀ secondplaces₀ count₀ y₀ picture work first firstplaces second secondplaces count y =
+    AtRow false 64 8 (8 * flatBound) whole grid below64 (rect .x) (rect .xend) (rect .y) (rect .yend) 0
     picture₀ picture count y
-    × (length choices ≡ length choices₀)
+    × (length work ≡ length work₀)
     × (length first ≡ length first₀)
+    × (length firstplaces ≡ length firstplaces₀)
     × (length second ≡ length second₀)
+    × (length secondplaces ≡ length secondplaces₀)
 
 abbrev μ-loop : tie.MeasureT-loop
-μ-loop code grid rect picture₀ choices₀ first₀ second₀ count₀ y₀ picture choices first second count y = rect .yend - y
+μ-loop whole places grid rect picture₀ work₀ first₀ firstplaces₀ second₀ secondplaces₀ count₀ y₀ picture work first firstplaces second secondplaces count y = rect .yend - y
 
 -- The places: the start, before the loop and at its test; in a turn, after the call, and past the loop.
-abbrev begun : tie.After-slice-known4 Inv-loop μ-loop → tie.Start Inv-loop μ-loop
-begun c = c .before .before .before .before .before
+abbrev begun : tie.After-slice-known6 Inv-loop μ-loop → tie.Start Inv-loop μ-loop
+begun c = c .before .before .before .before .before .before .before .before
 
 abbrev start : tie.At-loop Inv-loop μ-loop → tie.Start Inv-loop μ-loop
 start c = begun (c .before)
@@ -34,11 +36,11 @@ start c = begun (c .before)
 abbrev at-test : tie.Then1 Inv-loop μ-loop → tie.At-loop Inv-loop μ-loop
 at-test c = c .before .before
 
-abbrev in-turn : tie.After-tile-row-arg4 Inv-loop μ-loop → tie.Then1 Inv-loop μ-loop
-in-turn c = c .before .before .before .before
+abbrev in-turn : tie.After-tile-row-arg6 Inv-loop μ-loop → tie.Then1 Inv-loop μ-loop
+in-turn c = c .before .before .before .before .before .before
 
-abbrev called : tie.After-slice-known8 Inv-loop μ-loop → tie.After-tile-row Inv-loop μ-loop
-called c = c .before .before .before .before .before .before .before .before
+abbrev called : tie.After-slice-known12 Inv-loop μ-loop → tie.After-tile-row Inv-loop μ-loop
+called c = c .before .before .before .before .before .before .before .before .before .before .before .before
 
 abbrev past : tie.Else1 Inv-loop μ-loop → tie.At-loop Inv-loop μ-loop
 past c = c .before .before
@@ -47,7 +49,7 @@ loop-holds : tie.Need-loop-holds Inv-loop μ-loop
 loop-holds c =
     let p = begun c .pre .1 in
     let d = ready-small (p .0) in
-    (rows-begin _ (omega arith) (omega arith), refl, refl, refl)
+    (rows-begin _ (omega arith) (omega arith), refl, refl, refl, refl, refl)
 
 tile-row-requires : tie.Need-tile-row-requires Inv-loop μ-loop
 tile-row-requires c κs =
@@ -56,14 +58,14 @@ tile-row-requires c κs =
     let s = start (at-test t) in
     let p = s .pre .1 .1 in
     let r = ready-again (s .pre .1 .0) (i .0 .place .size) in
-    (s .pre .0, (r, (p .0, (t .if1 .taken, (omega arith, omega arith, omega arith)))))
+    (s .pre .0, (r, (p .0, (t .if1 .taken, (omega arith, omega arith, omega arith, omega arith, omega arith)))))
 
 add-count : tie.Need-add-count Inv-loop μ-loop
 add-count c =
     let t = in-turn (called c .before) in
     let l = at-test t in
     let u = up-sum (l .loop .inv .0 .place) (t .if1 .taken) (called c .tile-row .ensures .bound) in
-    omega (arith, sound-length (start l .pre .0), u)
+    omega (arith, sound-length (start l .pre .0 .sound), u)
 
 add-y : tie.Need-add-y Inv-loop μ-loop
 add-y c =
@@ -80,9 +82,15 @@ loop-again c =
     let v = called c .tile-row in
     let t = in-turn (called c .before) in
     let i = at-test t .loop .inv in
-    let kept = v .kept .1 .1 .1 .1 in
-    let again = rows-again (i .0) (t .if1 .taken) (v .ensures) (kept .0) in
-    (again, kept .1 .0 ∙ i .1, kept .1 .1 .0 ∙ i .2, kept .1 .1 .1 .0 ∙ i .3)
+    let kept = v .kept .1 .1 .1 .1 .1 in
+    let again = rows-again (i .0) (t .if1 .taken) (v .ensures) (kept .0) in (
+      again,
+      kept .1 .0 ∙ i .1,
+      kept .1 .1 .0 ∙ i .2,
+      kept .1 .1 .1 .0 ∙ i .3,
+      kept .1 .1 .1 .1 .0 ∙ i .4,
+      kept .1 .1 .1 .1 .1 .0 ∙ i .5,
+    )
 
 same-length : tie.Need-same-length Inv-loop μ-loop
 same-length c = past c .loop .inv .0 .place .size
@@ -95,6 +103,12 @@ same-length-3 c = past c .loop .inv .2
 
 same-length-4 : tie.Need-same-length-4 Inv-loop μ-loop
 same-length-4 c = past c .loop .inv .3
+
+same-length-5 : tie.Need-same-length-5 Inv-loop μ-loop
+same-length-5 c = past c .loop .inv .4
+
+same-length-6 : tie.Need-same-length-6 Inv-loop μ-loop
+same-length-6 c = past c .loop .inv .5
 
 returns : tie.Need-returns Inv-loop μ-loop
 returns c = rows-done (past c .loop .inv .0) (omega arith) (omega arith)
@@ -115,4 +129,6 @@ tile-rows-spec =
     same-length-2
     same-length-3
     same-length-4
+    same-length-5
+    same-length-6
     returns)

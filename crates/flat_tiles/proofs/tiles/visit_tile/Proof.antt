@@ -1,13 +1,14 @@
 -- Done by the look, or cut and its children visited.
 use mathlib.Core.Path.{_≡_, refl, ap}
 use mathlib.Core.Bool.{false}
-use Prim.Native.Nat.{_*_, _%_}
+use Prim.Native.Nat.{_*_, _%_, _≤_}
 use native.Mathlib.Omega.{arith}
+use lib.ListN.{length}
 use Rattle.rules.specs.Drawings.{flatBound, Region, region}
 use Rattle.walk.specs.Cells.{CellOf, regionIn}
 use Rattle.walk.specs.Walks.{Opened}
 use Rattle.walk.proofs.CellLaws.{ready-small}
-use Rattle.walk.proofs.LookLaws.{sound-length, done-of, open-of, done-visits, open-sound, open-fewer, open-rows}
+use Rattle.walk.proofs.LookLaws.{sound-length, done-of, open-of, done-visits, open-level, open-fewer, open-rows}
 use Rattle.walk.proofs.Places.{ready-again}
 use Rattle.flat_tiles.specs.Sides.{below8}
 use borrow.Author.Needs.{needs}
@@ -16,26 +17,29 @@ use Rattle.flat_tiles.proofs.tiles.visit_tile.Tie as tie
 
 -- The places: the start, before and after the cell is made; the look, from either arm; in the arm of a cut the call for
 -- the children, and what is after it.
-abbrev begun : tie.After-slice-known4 → tie.Start
-begun c = c .before .before .before .before .before
+abbrev begun : tie.After-slice-known6 → tie.Start
+begun c = c .before .before .before .before .before .before .before .before
 
 abbrev start : tie.After-cell-at → tie.Start
 start c = begun (c .before)
 
 abbrev with-cell : tie.After-look → tie.After-cell-at
-with-cell c = c .before .before .before .before
+with-cell c = c .before .before .before .before .before
 
 abbrev done : tie.After-known-told → tie.After-look
-done c = c .before .before .before .before .before .before .before .before .before
+done c = c .before .before .before .before .before .before .before .before .before .before .before
 
 abbrev looked : tie.After-known-told2 → tie.After-look
-looked c = c .before .before .before .before .before .before .before .before .before
+looked c = c .before .before .before .before .before .before .before .before .before .before .before
 
-abbrev in-cut : tie.After-eight-rows-arg3 → tie.After-known-told2
-in-cut c = c .before .before .before .before .before
+abbrev in-cut : tie.After-eight-rows-arg4 → tie.After-known-told2
+in-cut c = c .before .before .before .before .before .before .before .before
 
-abbrev visited : tie.After-slice-known10 → tie.After-eight-rows
-visited c = c .before .before .before .before .before .before
+abbrev visited : tie.After-slice-known14 → tie.After-eight-rows
+visited c = c .before .before .before .before .before .before .before .before
+
+abbrev made-cell : tie.After-look-arg4 → tie.After-cell-at
+made-cell c = c .before .before .before .before
 
 -- What is known at them.
 made : (c : tie.After-cell-at)
@@ -48,9 +52,10 @@ begins c = omega (arith, ap (λ (q : Region). q .i) (made c .same), start c .pre
 opened : (c : tie.After-known-told2)
     → let j = looked c in
     let a = start (with-cell j) .args in
-    Opened false (a .code .now) (a .grid) (regionIn (with-cell j .cell-at .result)) (a .picture .now)
-    (j .look .last .1 .1 .1 .0) (j .look .last .1 .1 .1 .1 .1 .0) (c .before .seen2 .given .0 .0)
-opened c = open-of false _ _ _ _ _ _ (looked c .look .ensures) (c .before .seen2 .given .1)
+    Opened false (a .whole .now) (a .whole .now) (a .places .now) (a .grid) (regionIn (with-cell j .cell-at .result)) (a .picture .now)
+    (j .look .last .1 .1 .1 .1 .1 .0) (j .look .last .1 .1 .1 .1 .1 .1 .0) (j .look .last .1 .1 .1 .1 .1 .1 .1 .1 .0)
+    (j .look .last .1 .1 .1 .1 .1 .1 .1 .1 .1 .0) (c .before .seen2 .given .0 .0)
+opened c = open-of false _ _ _ _ _ _ _ _ _ _ (looked c .look .ensures) (c .before .seen2 .given .1)
 
 cell-at-requires : tie.Need-cell-at-requires
 cell-at-requires c κs =
@@ -58,10 +63,10 @@ cell-at-requires c κs =
 
 look-requires : tie.Need-look-requires
 look-requires c κs =
-    let k = c .before .before .before in
+    let k = made-cell c in
     let p = start k .pre in
     let r = p .1 .1 .1 .1 in
-    (p .0, (p .1 .0, (made k .ok, (begins k, (omega arith, omega arith)))))
+    (p .0, (p .1 .0, (made k .ok, (begins k, ((omega arith, omega arith), (omega arith, omega arith))))))
 
 enum-known-seen : tie.Need-enum-known-seen
 enum-known-seen c = search needs
@@ -74,7 +79,7 @@ mul-short c =
     let j = looked c in
     let o = opened c .cut .start in
     let g = start (with-cell j) .good in
-    omega (arith, j .look .kept .1 .1 .1 .1 .1 .0)
+    omega (arith, j .look .kept .1 .1 .1 .1 .1 .1 .1 .1 .0)
 
 sub-short : tie.Need-sub-short
 sub-short c = opened c .cut .start
@@ -85,6 +90,28 @@ part-short-start c = opened (c .before) .cut .start
 part-short-end : tie.Need-part-short-end
 part-short-end c = search needs
 
+-- The places are as many as the words.
+places-start : (c : tie.After-known-told2) → let v = looked c .look .last .1 .1 .1 .1 .1 .1 .1 .1 .1 .0 in
+    c .before .seen2 .given .0 .0 ≤ length v
+places-start c =
+    let j = looked c in
+    let k = j .look .kept .1 .1 .1 .1 .1 .1 .1 .1 in
+    let l = start (with-cell j) .pre .1 .1 .1 .1 in
+    omega (arith, opened c .cut .start, k .0, k .1 .0, l .2)
+
+mul-shortplaces : tie.Need-mul-shortplaces
+mul-shortplaces c =
+    let j = looked (c .before .before) in
+    let o = places-start (c .before .before) in
+    let g = start (with-cell j) .good in
+    omega (arith, j .look .kept .1 .1 .1 .1 .1 .1 .1 .1 .1 .0)
+
+sub-shortplaces : tie.Need-sub-shortplaces
+sub-shortplaces c = places-start (c .before .before)
+
+part-shortplaces-start : tie.Need-part-shortplaces-start
+part-shortplaces-start c = places-start (c .before .before .before)
+
 -- Both tapes are sound; which of them is lent shows in what is drawn and counted.
 eight-rows-requires : tie.Need-eight-rows-requires
 eight-rows-requires c κs =
@@ -93,11 +120,11 @@ eight-rows-requires c κs =
     let k = with-cell j in
     let p = start k .pre in
     let l = p .1 .1 .1 .1 in
-    let f = open-fewer (p .0) (opened t) in
-    let short = open-sound (p .0) (opened t) in
+    let w = j .look .kept .1 .1 .1 .1 .1 .1 .0 in
+    let short = open-level (p .0 .sound) (opened t) in
     let side = ap (λ (q : Region). q .long) (made k .same) in (
       search (short, p .0),
-      (ready-again (p .1 .0) (j .look .kept .1 .1 .1 .0), (made k .ok, ((side, begins k), (omega arith, omega arith)))),
+      (ready-again (p .1 .0) (j .look .kept .1 .1 .1 .1 .1 .0), (made k .ok, ((side, begins k), (omega arith, omega arith, omega arith)))),
     )
 
 add-result : tie.Need-add-result
@@ -105,7 +132,7 @@ add-result c =
     let u = visited c in
     let t = in-cut (u .before) in
     let s = start (with-cell (looked t)) in
-    omega (arith, sound-length (s .pre .0), open-fewer (s .pre .0) (opened t), u .eight-rows .ensures .bound)
+    omega (arith, sound-length (s .pre .0 .sound), open-fewer (s .pre .0 .sound) (opened t), u .eight-rows .ensures .bound)
 
 same-length : tie.Need-same-length
 same-length c = search needs
@@ -120,7 +147,7 @@ returns : tie.Need-returns
 returns c =
     let j = done c in
     done-visits flatBound 8 below8 (made (with-cell j) .same) (omega arith)
-    (done-of false _ _ _ _ _ _ (j .look .ensures) (c .before .seen .given .1))
+    (done-of false _ _ _ _ _ _ _ _ _ _ (j .look .ensures) (c .before .seen .given .1))
 
 same-length-4 : tie.Need-same-length-4
 same-length-4 c = search needs
@@ -139,8 +166,20 @@ returns-2 c =
     let u = visited c in
     let t = in-cut (u .before) in
     let k = with-cell (looked t) in
-    open-rows 8 8 (start k .pre .0) (omega arith) (omega arith) refl (made k) (opened t) below8 (64 * 65)
+    open-rows 8 8 (start k .pre .0 .sound) (omega arith) (omega arith) refl (made k) (opened t) below8 (64 * 65)
     (u .eight-rows .ensures)
+
+part-shortplaces-end : tie.Need-part-shortplaces-end
+part-shortplaces-end c = search needs
+
+same-length-8 : tie.Need-same-length-8
+same-length-8 c = search needs
+
+same-length-9 : tie.Need-same-length-9
+same-length-9 c = search needs
+
+same-length-10 : tie.Need-same-length-10
+same-length-10 c = search needs
 
 pub visit-tile-spec : {M : Type 1} → statement M
 visit-tile-spec =
@@ -154,14 +193,21 @@ visit-tile-spec =
     sub-short
     part-short-start
     part-short-end
+    mul-shortplaces
+    sub-shortplaces
+    part-shortplaces-start
+    part-shortplaces-end
     eight-rows-requires
     add-result
     same-length
     same-length-2
     same-length-3
-    returns
     same-length-4
+    returns
     same-length-5
     same-length-6
     same-length-7
+    same-length-8
+    same-length-9
+    same-length-10
     returns-2)

@@ -1,13 +1,10 @@
--- Refused with every byte as it was, or the full drawing of the unpacked tape.
-use mathlib.Core.Path.{_≡_, refl, sym, _∙_}
+-- Refused with every byte as it was, or the full drawing.
+use mathlib.Core.Path.{_≡_, sym, _∙_}
 use mathlib.Core.Bool.{true}
-use Prim.Native.Nat.{_≤_}
 use lib.ListN.{length}
-use lib.Seq.{length-take-le}
 use Rattle.picture.specs.Shapes.{gridIn}
 use Rattle.layers.specs.Says.{drawFault}
-use Rattle.layers.proofs.StepLaws.{solid-size}
-use Rattle.layers.proofs.Drawing.{draw-lines, Clear, clear, words-room, words-few, drawable}
+use Rattle.layers.proofs.Drawing.{draw-lines, Clear, clear, draws, draws-few}
 use Rattle.layers.proofs.Drawing.{full-refused, full-done}
 use borrow.Author.Needs.{needs}
 use Rattle.layers.proofs.solid.draw_solid.Statement.{statement}
@@ -20,18 +17,15 @@ at-length c = c .before .before
 abbrev at-grid : tie.After-first-fault → tie.After-grid-fault
 at-grid c = at-length c .before
 
-abbrev at-opened : tie.After-first-fault → tie.After-open-tape
-at-opened c = at-grid c .before
+-- Edition 01: neither the slots nor the clauses are many.
+abbrev at-few : tie.After-first-fault → tie.Else2
+at-few c = at-grid c .before
+
+abbrev at-checked : tie.After-first-fault → tie.After-check-tape
+at-checked c = at-few c .before .before .before .before
 
 abbrev at-start : tie.After-first-fault → tie.Start
-at-start c = at-opened c .before .before .before .before
-
--- No line holds; and the drawing.
-abbrev at-clear : tie.After-draw-solid-arg → tie.Else1
-at-clear c = c .before .before .before
-
-abbrev at-drawn : tie.After-done → tie.After-draw-solid
-at-drawn c = c .before .before .before
+at-start c = at-checked c .before .before .before
 
 fault : (c : tie.After-first-fault)
     → (let a = at-start c .args in
@@ -40,26 +34,45 @@ fault c =
     let a = at-start c .args in
     c .first-fault .ensures
     ∙ draw-lines true (a .tape .now) (gridIn (a .grid) true) (length (a .picture .now))
-    (at-opened c .open-tape .ensures .read .number) (at-grid c .grid-fault .ensures)
+    (at-checked c .check-tape .ensures .number) (at-grid c .grid-fault .ensures)
     (at-length c .length-fault .ensures)
 
-none : (c : tie.Else1)
+none : (c : tie.Else3)
     → (let a = at-start (c .before) .args in
     drawFault true (a .tape .now) (gridIn (a .grid) true) (length (a .picture .now)) ≡ 0)
-none c = sym (fault (c .before)) ∙ c .if1 .left
+none c = sym (fault (c .before)) ∙ c .if3 .left
 
-checked : (c : tie.Else1)
+checked : (c : tie.Else3)
     → (let a = at-start (c .before) .args in
     Clear true (a .tape .now) (gridIn (a .grid) true) (length (a .picture .now)))
 checked c = clear _ _ _ _ (none c)
 
--- The words of the tape are among those there are.
-fits : (c : tie.Else1)
-    → (let p = at-opened (c .before) .open-tape in p .result .clauses ≤ length (p .last .1 .0))
-fits c = words-room (at-opened (c .before) .open-tape .ensures) (checked c .read)
+check-tape-requires : tie.Need-check-tape-requires
+check-tape-requires c κs = search needs
 
-open-tape-requires : tie.Need-open-tape-requires
-open-tape-requires c κs = search needs
+cast-if1 : tie.Need-cast-if1
+cast-if1 c = search needs
+
+draw-long-requires : tie.Need-draw-long-requires
+draw-long-requires c κs = search needs
+
+same-length : tie.Need-same-length
+same-length c = search needs
+
+returns : tie.Need-returns
+returns c = search needs
+
+cast-if2 : tie.Need-cast-if2
+cast-if2 c = search needs
+
+draw-long-requires-2 : tie.Need-draw-long-requires-2
+draw-long-requires-2 c κs = search needs
+
+same-length-2 : tie.Need-same-length-2
+same-length-2 c = search needs
+
+returns-2 : tie.Need-returns-2
+returns-2 c = search needs
 
 grid-fault-requires : tie.Need-grid-fault-requires
 grid-fault-requires c κs = search needs
@@ -76,56 +89,48 @@ first-fault-requires c κs = search needs
 refused-requires : tie.Need-refused-requires
 refused-requires c κs = search needs
 
-returns : tie.Need-returns
-returns c =
+returns-3 : tie.Need-returns-3
+returns-3 c =
     let f = c .before .before in
-    full-refused true _ _ _ (c .refused .ensures) (fault f) (c .before .if1 .taken)
-    (at-opened f .open-tape .ensures .read .place)
+    full-refused true _ _ _ (c .refused .ensures) (fault f) (c .before .if3 .taken)
+    (at-checked f .check-tape .ensures .place)
 
-cast-n : tie.Need-cast-n
-cast-n c = search needs
-
-array-share-prefix-words : tie.Need-array-share-prefix-words
-array-share-prefix-words c = fits (c .before)
-
-slice-aggregate-draw-solid : tie.Need-slice-aggregate-draw-solid
-slice-aggregate-draw-solid c = sym (length-take-le _ _ (fits (c .before .before)))
-
-draw-solid-requires : tie.Need-draw-solid-requires
-draw-solid-requires c κs =
-    let e = at-clear c in
-    let o = at-opened (e .before) .open-tape .ensures in
-    let k = checked e in
-    (drawable o (k .read) (k .grid), (words-few o (k .read), k .size ∙ sym (solid-size true _ refl)))
+draw-few-requires : tie.Need-draw-few-requires
+draw-few-requires c κs =
+    let e = c .before in
+    draws-few (draws (checked e)) (at-checked (e .before) .check-tape .ensures .clauses) (at-few (e .before) .if2 .left)
 
 done-requires : tie.Need-done-requires
 done-requires c κs = search needs
 
-same-length : tie.Need-same-length
-same-length c = search needs
+same-length-3 : tie.Need-same-length-3
+same-length-3 c = search needs
 
-returns-2 : tie.Need-returns-2
-returns-2 c =
-    let d = at-drawn c in
-    let e = at-clear (d .before) in
-    full-done true _ _ _ (c .done .ensures) (none e) (at-opened (e .before) .open-tape .ensures)
-    (d .draw-solid .ensures)
+returns-4 : tie.Need-returns-4
+returns-4 c =
+    let v = c .before .before .before in
+    full-done true _ _ _ (c .done .ensures) (none (v .before .before)) (v .draw-few .ensures)
 
 pub draw-solid-spec : {M : Type 1} → statement M
 draw-solid-spec =
     tie.close
     (tie.spec
-    open-tape-requires
+    check-tape-requires
+    cast-if1
+    draw-long-requires
+    same-length
+    returns
+    cast-if2
+    draw-long-requires-2
+    same-length-2
+    returns-2
     grid-fault-requires
     length-fault-requires
     slice-aggregate-first-fault
     first-fault-requires
     refused-requires
-    returns
-    cast-n
-    array-share-prefix-words
-    slice-aggregate-draw-solid
-    draw-solid-requires
+    returns-3
+    draw-few-requires
     done-requires
-    same-length
-    returns-2)
+    same-length-3
+    returns-4)

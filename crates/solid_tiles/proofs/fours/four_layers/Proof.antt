@@ -13,18 +13,19 @@ use Rattle.solid_tiles.proofs.fours.four_layers.Statement.{statement}
 use Rattle.solid_tiles.proofs.fours.four_layers.Tie as tie
 
 abbrev Inv-loop : tie.InvT-loop
-Inv-loop code grid parent picture₀ choices₀ third₀ count₀ z₀ picture choices third count z =
+Inv-loop whole code places grid parent picture₀ work₀ third₀ thirdplaces₀ count₀ z₀ picture work third thirdplaces count z =
     AtLayer true 4 4 (16 * 65) code grid below4
     (parent .x) (parent .xend) (parent .y) (parent .yend) (parent .z) (parent .zend) picture₀ picture count z
-    × (length choices ≡ length choices₀)
+    × (length work ≡ length work₀)
     × (length third ≡ length third₀)
+    × (length thirdplaces ≡ length thirdplaces₀)
 
 abbrev μ-loop : tie.MeasureT-loop
-μ-loop code grid parent picture₀ choices₀ third₀ count₀ z₀ picture choices third count z = z - parent .z
+μ-loop whole code places grid parent picture₀ work₀ third₀ thirdplaces₀ count₀ z₀ picture work third thirdplaces count z = z - parent .z
 
 -- The places: the start, the loop, a turn of it, after the call, and past the loop.
 abbrev sized : tie.After-struct-known Inv-loop μ-loop → tie.Start Inv-loop μ-loop
-sized c = c .before .before .before .before .before
+sized c = c .before .before .before .before .before .before .before .before
 
 abbrev begun : tie.After-struct-known2 Inv-loop μ-loop → tie.Start Inv-loop μ-loop
 begun c = sized (c .before)
@@ -35,11 +36,11 @@ start c = begun (c .before)
 abbrev at-test : tie.Then1 Inv-loop μ-loop → tie.At-loop Inv-loop μ-loop
 at-test c = c .before .before
 
-abbrev in-turn : tie.After-four-rows-arg3 Inv-loop μ-loop → tie.Then1 Inv-loop μ-loop
-in-turn c = c .before .before .before
+abbrev in-turn : tie.After-four-rows-arg4 Inv-loop μ-loop → tie.Then1 Inv-loop μ-loop
+in-turn c = c .before .before .before .before
 
-abbrev called : tie.After-slice-known6 Inv-loop μ-loop → tie.After-four-rows Inv-loop μ-loop
-called c = c .before .before .before .before .before .before
+abbrev called : tie.After-slice-known8 Inv-loop μ-loop → tie.After-four-rows Inv-loop μ-loop
+called c = c .before .before .before .before .before .before .before .before
 
 abbrev past : tie.Else1 Inv-loop μ-loop → tie.At-loop Inv-loop μ-loop
 past c = c .before .before
@@ -62,6 +63,7 @@ loop-holds c =
       layers-begin _ _ (omega arith) (omega arith) (omega arith) (omega arith) (omega arith) (omega arith),
       refl,
       refl,
+      refl,
     )
 
 sub-z-2 : tie.Need-sub-z-2 Inv-loop μ-loop
@@ -74,14 +76,14 @@ four-rows-requires c κs =
     let s = start (at-test t) in
     let p = s .pre .1 .1 in
     let again = ready-again (s .pre .1 .0) (i .0 .place .size) in
-    (s .pre .0, (again, (p .0, ((p .1 .0, down-in (i .0 .place) (t .if1 .taken) .1), (omega arith, omega arith)))))
+    (s .pre .0, (again, (p .0, ((p .1 .0, down-in (i .0 .place) (t .if1 .taken) .1), (omega arith, omega arith, omega arith)))))
 
 add-count : tie.Need-add-count Inv-loop μ-loop
 add-count c =
     let t = in-turn (called c .before) in
     let l = at-test t in
     let sum = down-sum (l .loop .inv .0 .place) (t .if1 .taken) (called c .four-rows .ensures .bound) in
-    omega (arith, sound-length (start l .pre .0), sum)
+    omega (arith, sound-length (start l .pre .0 .sound), sum)
 
 loop-less : tie.Need-loop-less Inv-loop μ-loop
 loop-less c =
@@ -93,10 +95,11 @@ loop-again c =
     let v = called c .four-rows in
     let t = in-turn (called c .before) in
     let i = at-test t .loop .inv in
-    let kept = v .kept .1 .1 .1 .1 in (
+    let kept = v .kept .1 .1 .1 .1 .1 .1 in (
       layers-again (i .0) (t .if1 .taken) (v .ensures) (kept .0),
       kept .1 .0 ∙ i .1,
       kept .1 .1 .0 ∙ i .2,
+      kept .1 .1 .1 .0 ∙ i .3,
     )
 
 same-length : tie.Need-same-length Inv-loop μ-loop
@@ -107,6 +110,9 @@ same-length-2 c = past c .loop .inv .1
 
 same-length-3 : tie.Need-same-length-3 Inv-loop μ-loop
 same-length-3 c = past c .loop .inv .2
+
+same-length-4 : tie.Need-same-length-4 Inv-loop μ-loop
+same-length-4 c = past c .loop .inv .3
 
 returns : tie.Need-returns Inv-loop μ-loop
 returns c = layers-done (past c .loop .inv .0) (omega arith) (omega arith)
@@ -130,4 +136,5 @@ four-layers-spec =
     same-length
     same-length-2
     same-length-3
+    same-length-4
     returns)

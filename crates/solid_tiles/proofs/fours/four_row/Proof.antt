@@ -13,18 +13,19 @@ use Rattle.solid_tiles.proofs.fours.four_row.Statement.{statement}
 use Rattle.solid_tiles.proofs.fours.four_row.Tie as tie
 
 abbrev Inv-loop : tie.InvT-loop
-Inv-loop code grid parent y z picture₀ choices₀ third₀ count₀ x₀ picture choices third count x =
+Inv-loop whole code places grid parent y z picture₀ work₀ third₀ thirdplaces₀ count₀ x₀ picture work third thirdplaces count x =
     AtColumn true 4 4 65 code grid below4
     (parent .x) (parent .xend) y z picture₀ picture count x
-    × (length choices ≡ length choices₀)
+    × (length work ≡ length work₀)
     × (length third ≡ length third₀)
+    × (length thirdplaces ≡ length thirdplaces₀)
 
 abbrev μ-loop : tie.MeasureT-loop
-μ-loop code grid parent y z picture₀ choices₀ third₀ count₀ x₀ picture choices third count x = parent .xend - x
+μ-loop whole code places grid parent y z picture₀ work₀ third₀ thirdplaces₀ count₀ x₀ picture work third thirdplaces count x = parent .xend - x
 
 -- The places: the start, the loop, a turn of it, after the call, and past the loop.
-abbrev begun : tie.After-slice-known3 Inv-loop μ-loop → tie.Start Inv-loop μ-loop
-begun c = c .before .before .before .before
+abbrev begun : tie.After-slice-known4 Inv-loop μ-loop → tie.Start Inv-loop μ-loop
+begun c = c .before .before .before .before .before .before .before
 
 abbrev start : tie.At-loop Inv-loop μ-loop → tie.Start Inv-loop μ-loop
 start c = begun (c .before)
@@ -32,11 +33,11 @@ start c = begun (c .before)
 abbrev at-test : tie.Then1 Inv-loop μ-loop → tie.At-loop Inv-loop μ-loop
 at-test c = c .before .before
 
-abbrev in-turn : tie.After-visit-four-arg3 Inv-loop μ-loop → tie.Then1 Inv-loop μ-loop
-in-turn c = c .before .before .before
+abbrev in-turn : tie.After-visit-four-arg4 Inv-loop μ-loop → tie.Then1 Inv-loop μ-loop
+in-turn c = c .before .before .before .before
 
-abbrev called : tie.After-slice-known6 Inv-loop μ-loop → tie.After-visit-four Inv-loop μ-loop
-called c = c .before .before .before .before .before .before
+abbrev called : tie.After-slice-known8 Inv-loop μ-loop → tie.After-visit-four Inv-loop μ-loop
+called c = c .before .before .before .before .before .before .before .before
 
 abbrev past : tie.Else1 Inv-loop μ-loop → tie.At-loop Inv-loop μ-loop
 past c = c .before .before
@@ -45,6 +46,7 @@ loop-holds : tie.Need-loop-holds Inv-loop μ-loop
 loop-holds c =
     let p = begun c .pre .1 .1 in (
       row-begins _ (omega arith) (omega arith),
+      refl,
       refl,
       refl,
     )
@@ -57,14 +59,14 @@ visit-four-requires c κs =
     let p = s .pre .1 .1 in
     let again = ready-again (s .pre .1 .0) (i .0 .place .size) in
     let inside = child-in _ _ _ (p .0) (t .if1 .taken) (p .1 .0 .1) (p .1 .0 .2) in
-    (s .pre .0, (again, (inside, (omega arith, omega arith))))
+    (s .pre .0, (again, (inside, (omega arith, omega arith, omega arith))))
 
 add-count : tie.Need-add-count Inv-loop μ-loop
 add-count c =
     let t = in-turn (called c .before) in
     let l = at-test t in
     let sum = up-sum (l .loop .inv .0 .place) (t .if1 .taken) (called c .visit-four .ensures .bound) in
-    omega (arith, sound-length (start l .pre .0), sum)
+    omega (arith, sound-length (start l .pre .0 .sound), sum)
 
 add-x : tie.Need-add-x Inv-loop μ-loop
 add-x c =
@@ -81,10 +83,11 @@ loop-again c =
     let v = called c .visit-four in
     let t = in-turn (called c .before) in
     let i = at-test t .loop .inv in
-    let kept = v .kept .1 .1 .1 .1 .1 in (
+    let kept = v .kept .1 .1 .1 .1 .1 .1 .1 in (
       row-again (i .0) (t .if1 .taken) (v .ensures) (kept .0),
       kept .1 .0 ∙ i .1,
       kept .1 .1 .0 ∙ i .2,
+      kept .1 .1 .1 .0 ∙ i .3,
     )
 
 same-length : tie.Need-same-length Inv-loop μ-loop
@@ -95,6 +98,9 @@ same-length-2 c = past c .loop .inv .1
 
 same-length-3 : tie.Need-same-length-3 Inv-loop μ-loop
 same-length-3 c = past c .loop .inv .2
+
+same-length-4 : tie.Need-same-length-4 Inv-loop μ-loop
+same-length-4 c = past c .loop .inv .3
 
 returns : tie.Need-returns Inv-loop μ-loop
 returns c = row-done (past c .loop .inv .0) (omega arith) (omega arith)
@@ -114,4 +120,5 @@ four-row-spec =
     same-length
     same-length-2
     same-length-3
+    same-length-4
     returns)

@@ -13,20 +13,22 @@ use Rattle.solid_tiles.proofs.sixteens.sixteen_layers.Statement.{statem
 use Rattle.solid_tiles.proofs.sixteens.sixteen_layers.Tie as tie
 
 abbrev Inv-loop : tie.InvT-loop
-Inv-loop code grid parent picture₀ choices₀ second₀ third₀ count₀ z₀ picture choices second third count z =
+Inv-loop whole code places grid parent picture₀ work₀ second₀ secondplaces₀ third₀ thirdplaces₀ count₀ z₀ picture work second secondplaces third thirdplaces count z =
     AtLayer true 16 4 (16 * 4161) code grid below16
     (parent .x) (parent .xend) (parent .y) (parent .yend) (parent .z) (parent .zend) picture₀ picture count z
-    × (length choices ≡ length choices₀)
+    × (length work ≡ length work₀)
     × (length second ≡ length second₀)
+    × (length secondplaces ≡ length secondplaces₀)
     × (length third ≡ length third₀)
+    × (length thirdplaces ≡ length thirdplaces₀)
 
 abbrev μ-loop : tie.MeasureT-loop
-μ-loop code grid parent picture₀ choices₀ second₀ third₀ count₀ z₀
-    picture choices second third count z = z - parent .z
+μ-loop whole code places grid parent picture₀ work₀ second₀ secondplaces₀ third₀ thirdplaces₀ count₀ z₀
+    picture work second secondplaces third thirdplaces count z = z - parent .z
 
 -- The places: the start, the loop, a turn of it, after the call, and past the loop.
 abbrev sized : tie.After-struct-known Inv-loop μ-loop → tie.Start Inv-loop μ-loop
-sized c = c .before .before .before .before .before .before
+sized c = c .before .before .before .before .before .before .before .before .before .before
 
 abbrev begun : tie.After-struct-known2 Inv-loop μ-loop → tie.Start Inv-loop μ-loop
 begun c = sized (c .before)
@@ -37,11 +39,11 @@ start c = begun (c .before)
 abbrev at-test : tie.Then1 Inv-loop μ-loop → tie.At-loop Inv-loop μ-loop
 at-test c = c .before .before
 
-abbrev in-turn : tie.After-sixteen-rows-arg4 Inv-loop μ-loop → tie.Then1 Inv-loop μ-loop
-in-turn c = c .before .before .before .before
+abbrev in-turn : tie.After-sixteen-rows-arg6 Inv-loop μ-loop → tie.Then1 Inv-loop μ-loop
+in-turn c = c .before .before .before .before .before .before
 
-abbrev called : tie.After-slice-known8 Inv-loop μ-loop → tie.After-sixteen-rows Inv-loop μ-loop
-called c = c .before .before .before .before .before .before .before .before
+abbrev called : tie.After-slice-known12 Inv-loop μ-loop → tie.After-sixteen-rows Inv-loop μ-loop
+called c = c .before .before .before .before .before .before .before .before .before .before .before .before
 
 abbrev past : tie.Else1 Inv-loop μ-loop → tie.At-loop Inv-loop μ-loop
 past c = c .before .before
@@ -65,6 +67,8 @@ loop-holds c =
       refl,
       refl,
       refl,
+      refl,
+      refl,
     )
 
 sub-z-2 : tie.Need-sub-z-2 Inv-loop μ-loop
@@ -80,7 +84,7 @@ sixteen-rows-requires c κs =
       s .pre .0,
       (
         again,
-        (p .0, ((p .1 .0, down-in (i .0 .place) (t .if1 .taken) .1), (omega arith, omega arith, omega arith))),
+        (p .0, ((p .1 .0, down-in (i .0 .place) (t .if1 .taken) .1), (omega arith, omega arith, omega arith, omega arith, omega arith))),
       ),
     )
 
@@ -89,7 +93,7 @@ add-count c =
     let t = in-turn (called c .before) in
     let l = at-test t in
     let sum = down-sum (l .loop .inv .0 .place) (t .if1 .taken) (called c .sixteen-rows .ensures .bound) in
-    omega (arith, sound-length (start l .pre .0), sum)
+    omega (arith, sound-length (start l .pre .0 .sound), sum)
 
 loop-less : tie.Need-loop-less Inv-loop μ-loop
 loop-less c =
@@ -101,11 +105,13 @@ loop-again c =
     let v = called c .sixteen-rows in
     let t = in-turn (called c .before) in
     let i = at-test t .loop .inv in
-    let kept = v .kept .1 .1 .1 .1 in (
+    let kept = v .kept .1 .1 .1 .1 .1 .1 in (
       layers-again (i .0) (t .if1 .taken) (v .ensures) (kept .0),
       kept .1 .0 ∙ i .1,
       kept .1 .1 .0 ∙ i .2,
       kept .1 .1 .1 .0 ∙ i .3,
+      kept .1 .1 .1 .1 .0 ∙ i .4,
+      kept .1 .1 .1 .1 .1 .0 ∙ i .5,
     )
 
 same-length : tie.Need-same-length Inv-loop μ-loop
@@ -119,6 +125,12 @@ same-length-3 c = past c .loop .inv .2
 
 same-length-4 : tie.Need-same-length-4 Inv-loop μ-loop
 same-length-4 c = past c .loop .inv .3
+
+same-length-5 : tie.Need-same-length-5 Inv-loop μ-loop
+same-length-5 c = past c .loop .inv .4
+
+same-length-6 : tie.Need-same-length-6 Inv-loop μ-loop
+same-length-6 c = past c .loop .inv .5
 
 returns : tie.Need-returns Inv-loop μ-loop
 returns c = layers-done (past c .loop .inv .0) (omega arith) (omega arith)
@@ -143,4 +155,6 @@ sixteen-layers-spec =
     same-length-2
     same-length-3
     same-length-4
+    same-length-5
+    same-length-6
     returns)

@@ -14,22 +14,25 @@ use Rattle.solid_tiles.proofs.tiles.tile_rows.Statement.{statement}
 use Rattle.solid_tiles.proofs.tiles.tile_rows.Tie as tie
 
 abbrev Inv-loop : tie.InvT-loop
-Inv-loop code grid parent z picture₀ choices₀ first₀ second₀ third₀ count₀ y₀
-    picture choices first second third count y =
-    AtRow true 64 8 (8 * solidBound) code grid below64
+Inv-loop whole places grid parent z picture₀ work₀ first₀ firstplaces₀ second₀ secondplaces₀ third₀ thirdplaces₀ count₀ y₀
+    picture work first firstplaces second secondplaces third thirdplaces count y =
+    AtRow true 64 8 (8 * solidBound) whole grid below64
     (parent .x) (parent .xend) (parent .y) (parent .yend) z picture₀ picture count y
-    × (length choices ≡ length choices₀)
+    × (length work ≡ length work₀)
     × (length first ≡ length first₀)
+    × (length firstplaces ≡ length firstplaces₀)
     × (length second ≡ length second₀)
+    × (length secondplaces ≡ length secondplaces₀)
     × (length third ≡ length third₀)
+    × (length thirdplaces ≡ length thirdplaces₀)
 
 abbrev μ-loop : tie.MeasureT-loop
-μ-loop code grid parent z picture₀ choices₀ first₀ second₀ third₀ count₀ y₀
-    picture choices first second third count y = parent .yend - y
+μ-loop whole places grid parent z picture₀ work₀ first₀ firstplaces₀ second₀ secondplaces₀ third₀ thirdplaces₀ count₀ y₀
+    picture work first firstplaces second secondplaces third thirdplaces count y = parent .yend - y
 
 -- The places: the start, the loop, a turn of it, after the call, and past the loop.
-abbrev begun : tie.After-slice-known5 Inv-loop μ-loop → tie.Start Inv-loop μ-loop
-begun c = c .before .before .before .before .before .before
+abbrev begun : tie.After-slice-known8 Inv-loop μ-loop → tie.Start Inv-loop μ-loop
+begun c = c .before .before .before .before .before .before .before .before .before .before
 
 abbrev start : tie.At-loop Inv-loop μ-loop → tie.Start Inv-loop μ-loop
 start c = begun (c .before)
@@ -37,11 +40,11 @@ start c = begun (c .before)
 abbrev at-test : tie.Then1 Inv-loop μ-loop → tie.At-loop Inv-loop μ-loop
 at-test c = c .before .before
 
-abbrev in-turn : tie.After-tile-row-arg5 Inv-loop μ-loop → tie.Then1 Inv-loop μ-loop
-in-turn c = c .before .before .before .before .before
+abbrev in-turn : tie.After-tile-row-arg8 Inv-loop μ-loop → tie.Then1 Inv-loop μ-loop
+in-turn c = c .before .before .before .before .before .before .before .before
 
-abbrev called : tie.After-slice-known10 Inv-loop μ-loop → tie.After-tile-row Inv-loop μ-loop
-called c = c .before .before .before .before .before .before .before .before .before .before
+abbrev called : tie.After-slice-known16 Inv-loop μ-loop → tie.After-tile-row Inv-loop μ-loop
+called c = c .before .before .before .before .before .before .before .before .before .before .before .before .before .before .before .before
 
 abbrev past : tie.Else1 Inv-loop μ-loop → tie.At-loop Inv-loop μ-loop
 past c = c .before .before
@@ -50,6 +53,9 @@ loop-holds : tie.Need-loop-holds Inv-loop μ-loop
 loop-holds c =
     let p = begun c .pre .1 .1 in (
       rows-begin _ (omega arith) (omega arith),
+      refl,
+      refl,
+      refl,
       refl,
       refl,
       refl,
@@ -66,7 +72,7 @@ tile-row-requires c κs =
       s .pre .0,
       (
         again,
-        (p .0, ((p .1 .0 .0, t .if1 .taken, p .1 .0 .1), (omega arith, omega arith, omega arith, omega arith))),
+        (p .0, ((p .1 .0 .0, t .if1 .taken, p .1 .0 .1), (omega arith, omega arith, omega arith, omega arith, omega arith, omega arith, omega arith))),
       ),
     )
 
@@ -75,7 +81,7 @@ add-count c =
     let t = in-turn (called c .before) in
     let l = at-test t in
     let sum = up-sum (l .loop .inv .0 .place) (t .if1 .taken) (called c .tile-row .ensures .bound) in
-    omega (arith, sound-length (start l .pre .0), sum)
+    omega (arith, sound-length (start l .pre .0 .sound), sum)
 
 add-y : tie.Need-add-y Inv-loop μ-loop
 add-y c =
@@ -92,12 +98,15 @@ loop-again c =
     let v = called c .tile-row in
     let t = in-turn (called c .before) in
     let i = at-test t .loop .inv in
-    let kept = v .kept .1 .1 .1 .1 .1 in (
+    let kept = v .kept .1 .1 .1 .1 .1 .1 in (
       rows-again (i .0) (t .if1 .taken) (v .ensures) (kept .0),
       kept .1 .0 ∙ i .1,
       kept .1 .1 .0 ∙ i .2,
       kept .1 .1 .1 .0 ∙ i .3,
       kept .1 .1 .1 .1 .0 ∙ i .4,
+      kept .1 .1 .1 .1 .1 .0 ∙ i .5,
+      kept .1 .1 .1 .1 .1 .1 .0 ∙ i .6,
+      kept .1 .1 .1 .1 .1 .1 .1 .0 ∙ i .7,
     )
 
 same-length : tie.Need-same-length Inv-loop μ-loop
@@ -114,6 +123,15 @@ same-length-4 c = past c .loop .inv .3
 
 same-length-5 : tie.Need-same-length-5 Inv-loop μ-loop
 same-length-5 c = past c .loop .inv .4
+
+same-length-6 : tie.Need-same-length-6 Inv-loop μ-loop
+same-length-6 c = past c .loop .inv .5
+
+same-length-7 : tie.Need-same-length-7 Inv-loop μ-loop
+same-length-7 c = past c .loop .inv .6
+
+same-length-8 : tie.Need-same-length-8 Inv-loop μ-loop
+same-length-8 c = past c .loop .inv .7
 
 returns : tie.Need-returns Inv-loop μ-loop
 returns c = rows-done (past c .loop .inv .0) (omega arith) (omega arith)
@@ -135,4 +153,7 @@ tile-rows-spec =
     same-length-3
     same-length-4
     same-length-5
+    same-length-6
+    same-length-7
+    same-length-8
     returns)

@@ -7,6 +7,9 @@ use borrow.Author.Needs.{needs}
 use Rattle.tape.proofs.write.put_head.Statement.{statement}
 use Rattle.tape.proofs.write.put_head.Tie as tie
 
+edition-of-requires : tie.Need-edition-of-requires
+edition-of-requires c κs = search needs
+
 put-mark-requires : tie.Need-put-mark-requires
 put-mark-requires c κs = search needs
 
@@ -38,23 +41,25 @@ at-slots c = at-count c .before .before .before .before
 abbrev at-mark : tie.After-slice-known5 → tie.After-put-mark
 at-mark c = at-slots c .before .before .before .before
 
-abbrev at-start : tie.After-slice-known5 → tie.Start
-at-start c = at-mark c .before .before .before .before
+abbrev at-edition : tie.After-put-mark → tie.After-edition-of
+at-edition c = c .before .before .before
 
 returns : tie.Need-returns
 returns c =
-    let a = at-start c .args in
-    four-runs (a .out .now) (at-mark c .put-mark .last .0) (at-slots c .put-pair .last .0)
+    let e = at-edition (at-mark c) .edition-of in
+    let a = at-edition (at-mark c) .before .before .args in
+    rw (← e .ensures) (four-runs (a .out .now) (at-mark c .put-mark .last .0) (at-slots c .put-pair .last .0)
     (at-count c .put-word .last .0)
-    (at-spare c .put-pair2 .last .0) 0 2 4 6 84 80 1 (a .slots) (a .count % 256) (a .count / 256 % 256) (0 ∷ (0 ∷ []))
+    (at-spare c .put-pair2 .last .0) 0 2 4 6 84 80 (e .result) (a .slots) (a .count % 256) (a .count / 256 % 256) (0 ∷ (0 ∷ []))
     refl refl
     refl (at-mark c .put-mark .ensures) (at-slots c .put-pair .ensures) (at-count c .put-word .ensures)
-    (at-spare c .put-pair2 .ensures)
+    (at-spare c .put-pair2 .ensures))
 
 pub put-head-spec : {M : Type 1} → statement M
 put-head-spec =
     tie.close
     (tie.spec
+    edition-of-requires
     put-mark-requires
     cast-put-pair
     put-pair-requires
