@@ -1,5 +1,5 @@
--- What is owed of a probe: coordinates are rounded down and the result is a value, and the number in the answer is exact;
--- and that a coordinate is the fraction that its bits mean.
+-- What is owed of a probe: coordinates are rounded down and the result is a value; the number in the answer is exact; a
+-- coordinate is the fraction that its bits mean.
 use mathlib.Core.Path.{_≡_, refl, sym, ap, subst, _∙_}
 use mathlib.Core.Bool.{Bool, true, false, false≢true}
 use lib.IntN.{ℤ, pos, negsuc, negℤ, natAbs, _+ℤ_, _*ℤ_, +ℤ-one, sucℤ-*ℤ}
@@ -102,12 +102,13 @@ bits-mean b h = go (leb (2 ^ 63) b) (bitsExponent b) (b % 2 ^ 52) h
         × (over c *ℤ pos (2 ^ 1074) ≡ signed s (pick (eqb x 0) t ((2 ^ 52 + t) * 2 ^ (x - 1))) *ℤ pos (under c)))
     go s zero t h = value-fraction (ofFields binary64 s 0 t) s t (2 ^ 1074) (fields-none s t)
     go s (suc x) t h =
-        let v = value-fraction (ofFields binary64 s (suc x) t) s ((2 ^ 52 + t) * 2 ^ x) (2 ^ 1074) (fields-some s x t h) in
+        let n = (2 ^ 52 + t) * 2 ^ x in
+        let v = value-fraction (ofFields binary64 s (suc x) t) s n (2 ^ 1074) (fields-some s x t h) in
         let e : suc x - 1 ≡ x = omega arith in
         rw (e, eqb·suc-zero x) v
 
 -- The number in the answer is exact.
-unlike-false : (t : Bool) → unlike t false ≡ t
+pub unlike-false : (t : Bool) → unlike t false ≡ t
 unlike-false true = refl
 unlike-false false = refl
 
@@ -122,7 +123,7 @@ divided (fin t m e) s a h =
     ap (λ u. round binary64 u n d) (unlike-false t ∙ h .0)
     ∙ round-same binary64 s n d a 65536 (omega (arith, down-pos e)) (lit< tt) cross
 
-magnitude : (v : ℤ) → natAbs v ≤ 2 ^ 53 → HasValue (ofInt binary64 v) (isNeg v) (natAbs v) 1
+pub magnitude : (v : ℤ) → natAbs v ≤ 2 ^ 53 → HasValue (ofInt binary64 v) (isNeg v) (natAbs v) 1
 unfolding ofInt
 magnitude (pos a) h = round-whole binary64 false a h
 magnitude (negsuc a) h = round-whole binary64 true (suc a) h
@@ -133,7 +134,8 @@ signed-value (negsuc a) = refl
 
 quotient-exact : (s : Bool) (a : ℕ) → a < 2 ^ 53 → HasValue (round binary64 s a 65536) s a 65536
 quotient-exact s a h =
-    round-exact binary64 s a 65536 a 1058 (lit< tt) h (lt-of-lt-of-le (shl-lt 53 1058 h) (pow-mono {i = 1111} {j = 2098} (lit≤ tt)))
+    round-exact binary64 s a 65536 a 1058 (lit< tt) h
+    (lt-of-lt-of-le (shl-lt 53 1058 h) (pow-mono {i = 1111} {j = 2098} (lit≤ tt)))
     (sym (mul-assoc a (2 ^ 1058) 65536))
 
 pub stored-exactly : (v : ℤ) → IsValue v → Exactly v (storedFloat v)

@@ -9,8 +9,8 @@ use lib.Ieee.{Float, nan, inf, fin, up, down, binary64, ofInt, div}
 use Rattle.rules.specs.Values.{pick, when, firstFault, below, fraction, Sample}
 use Rattle.rules.specs.Tapes.{readTape, valueAt}
 
--- "The viewer has a point given as three f64 coordinates". A coordinate is what its 64 bits mean, by the kit's account of
--- IEEE 754: `nan` is not a number, `inf` infinite, and `fin s m e` is m·2^e, negative where s is true.
+-- "The viewer has a point given as three f64 coordinates". A coordinate is what its 64 bits mean, by the kit's account
+-- of IEEE 754: `nan` is not a number, `inf` infinite, and `fin s m e` is m·2^e, negative where s is true.
 pub record Point : Type 0 where
   pub x : Float
   pub y : Float
@@ -52,8 +52,8 @@ roundedDown c = fraction (over c) (under c)
 abbrev pub roundedPoint : Point → Sample
 roundedPoint p = record { x = roundedDown (p .x); y = roundedDown (p .y); z = roundedDown (p .z) }
 
--- "Over whole numbers: never above the coordinate, less than one unit below it." v/65,536 against over/under, both times
--- 65,536·under.
+-- "Over whole numbers: never above the coordinate, less than one unit below it." v/65,536 and (v + 1)/65,536 against
+-- over/under, all times 65,536·under.
 pub record RoundsDown (c : Float) (v : ℤ) : Type 0 where
   pub never-above : below (over c *ℤ pos 65536) (v *ℤ pos (under c)) ≡ false
   pub within-a-unit : below (over c *ℤ pos 65536) ((v +ℤ pos 1) *ℤ pos (under c)) ≡ true
@@ -80,8 +80,8 @@ probeFault s p = firstFault (probeLines s p)
 abbrev pub probedValue : List ℕ → Point → ℤ
 probedValue s p = valueAt (readTape s .tape) (roundedPoint p)
 
--- "The f64 in the answer is exactly the stored number divided by 65,536": the number as an f64, divided by 2^16. That no
--- step rounds is the statement below.
+-- "The f64 in the answer is exactly the stored number divided by 65,536": the number as an f64, divided by 2^16. That
+-- neither step rounds is the statement below.
 unfoldable pub storedFloat : ℤ → Float
 storedFloat v = div binary64 (ofInt binary64 v) (fin false 1 (pos 16))
 
