@@ -9,14 +9,14 @@ use Prim.Native.Nat.{ℕ, zero, suc}
 use native.Mathlib.Omega.{arith}
 use lib.Ieee.{Float}
 use borrow.Author.Tests.{eq-eqb, lt-ltb}
-use Rattle.rules.specs.Values.{IsValue, isNeg, below, Sample, Range, range, Box}
+use Rattle.rules.specs.Values.{IsValue, isNeg, below, range, Box}
 use Rattle.rules.specs.Tapes.{readTape}
 use Rattle.rules.specs.Probes.{RoundsDown, Exactly, roundedPoint, probeLines, probeFault, probedValue}
 use Rattle.rules.proofs.Order.{Holds, at-most-refl, holds-value}
 use Rattle.rules.proofs.Runs.{in-range, accepted-good}
 use Rattle.rules.proofs.Probes.{rounded-down, rounded-value, stored-exactly}
 use Rattle.probe.specs.Points.{pointIn}
-use Rattle.probe.specs.Sides.{sideOf, probeOf, sideNumber, sideValue}
+use Rattle.probe.specs.Sides.{sideOf, sideNumber, sideValue}
 use Rattle.probe.specs.Answers.{Found}
 use Rattle.probe.specs.declared.point.Point.{Point}
 use Rattle.probe.specs.declared.Finding.{Finding}
@@ -62,7 +62,8 @@ from-inside (negsuc n) a k e =
 from-outside : (v : ℤ) (a : Float) → IsValue v → Outside a ≡ sideOf v → (below (pos 0) v ≡ true) × Exactly v a
 from-outside (pos zero) a k e = absurd (omega (arith, ap sideNumber e))
 from-outside (pos (suc n)) a k e =
-    (lt-ltb 0 (suc n) (omega arith), subst (Exactly (pos (suc n))) (sym (ap sideValue e)) (stored-exactly (pos (suc n)) k))
+    let v = pos (suc n) in
+    (lt-ltb 0 (suc n) (omega arith), subst (Exactly v) (sym (ap sideValue e)) (stored-exactly v k))
 from-outside (negsuc n) a k e = absurd (omega (arith, ap sideNumber e))
 
 from-surface : (v : ℤ) → Surface ≡ sideOf v → v ≡ pos 0

@@ -1,33 +1,31 @@
 -- The call: its lines, the sample that is run, and the answer by the side of the value.
 use mathlib.Core.Path.{_≡_, refl, sym, ap, subst, _∙_}
 use mathlib.Core.Bool.{Bool, true, false, _&&_, not, true≢false, false≢true}
-use mathlib.Core.List.{List, [], _∷_}
+use mathlib.Core.List.{List}
 use lib.IntN.{ℤ, pos, negsuc}
 use lib.Signed.{ltZ}
-use Prim.Native.Nat.{ℕ, zero, suc, _≤_}
+use Prim.Native.Nat.{ℕ, zero, suc}
 use native.Mathlib.Omega.{arith}
-use lib.Dec.{eqb, ltb}
-use lib.ListN.{length, take}
+use lib.ListN.{take}
 use lib.Ieee.{Float}
-use borrow.Author.Tests.{ltb-true, ltb-false, eq-eqb, ne-eqb}
-use Rattle.rules.specs.Values.{pick, firstOf, when, Sample}
+use borrow.Author.Tests.{not-false, ltb-true, ltb-false, eq-eqb, ne-eqb}
+use Rattle.rules.specs.Values.{firstOf, Sample}
 use Rattle.rules.specs.Tapes.{readTape, placeOf, valueAt}
 use Rattle.rules.specs.Probes.{Point, coordinateOk, pointFault, roundedPoint, probeLines, probeFault, probedValue}
 use Rattle.rules.specs.Probes.{roundedDown, storedFloat}
-use Rattle.rules.proofs.Tests.{and-left, and-right}
+use Rattle.rules.proofs.Tests.{and-left, and-right, last-off}
 use Rattle.rules.proofs.Lines.{first-none, each-line}
 use Rattle.rules.proofs.Places.{tape-placed}
 use Rattle.rules.proofs.Probes.{rounded-value}
-use Rattle.code.specs.Words.{tapeIn, Runnable}
+use Rattle.code.specs.Words.{Runnable}
 use Rattle.code.specs.Runs.{Fit, SampleOk, Evaluated}
 use Rattle.code.specs.Unpacking.{Unpacked}
 use Rattle.code.proofs.WordTapes.{words-run, words-runnable, unpacked-tape, unpacked-accepted}
 use Rattle.probe.specs.declared.point.Point as declared-point
 use Rattle.probe.specs.declared.side.Probe.{Probe}
 use Rattle.probe.specs.declared.side.Probe.the-variants.{Inside, Outside, Surface, Refused}
-use Rattle.probe.specs.declared.Finding.{Finding}
 use Rattle.probe.specs.Points.{pointIn}
-use Rattle.probe.specs.Sides.{sideOf, probeOf}
+use Rattle.probe.specs.Sides.{sideOf}
 use Rattle.probe.specs.Answers.{Found}
 
 -- Line 20, by its test.
@@ -46,17 +44,13 @@ pub record Coordinates (p : Point) : Type 0 where
   pub y : coordinateOk (p .y) ≡ true
   pub z : coordinateOk (p .z) ≡ true
 
-no-fault : (t : Bool) → when (not t) 20 ≡ 0 → t ≡ true
-no-fault true e = refl
-no-fault false e = absurd (omega arith)
-
 pub coordinates : (p : Point) → pointFault p ≡ 0 → Coordinates p
 unfolding pointFault
 coordinates p e =
     let x = coordinateOk (p .x) in
     let y = coordinateOk (p .y) in
     let z = coordinateOk (p .z) in
-    let t = no-fault (x && (y && z)) e in
+    let t = not-false (x && (y && z)) (last-off (not (x && (y && z))) 19 e) in
     record {
       x = and-left x (y && z) t;
       y = and-left y z (and-right x (y && z) t);

@@ -1,15 +1,15 @@
 -- From the product to the unit: its whole part, and one less where the product is below that.
 use mathlib.Core.Path.{_≡_, refl, sym, ap, subst, _∙_}
-use mathlib.Core.Bool.{Bool, true, false, _||_, cond, false≢true, true≢false}
+use mathlib.Core.Bool.{Bool, true, false, cond}
 use lib.IntN.{ℤ, pos, negsuc, negℤ, natAbs, _-ℤ_, -ℤ-one}
 use Prim.Native.Nat.{ℕ, zero, suc, _+_, _-_, _*_, _/_, _^_, _≤_, _<_, min}
-use native.Mathlib.Nat.{mul-one, mul-assoc, mul-comm, mul-pos, mul-right-comm, mul-le-mul-right, le-of-mul-le-mul-right}
-use native.Mathlib.Nat.{le-trans, le-of-eq, lt-of-le-of-lt, div-le-of-le-mul, div-mul-le-self, lt-div-mul-add}
+use native.Mathlib.Nat.{mul-assoc, mul-comm, mul-pos, mul-le-mul-right}
+use native.Mathlib.Nat.{div-le-of-le-mul, div-mul-le-self, lt-div-mul-add}
 use native.Mathlib.Nat.{mul-lt-mul-of-pos-right, zero-mul, add-mul, mul-mul-mul-comm, mul-left-comm}
 use native.Mathlib.Nat.{le-div-iff-mul-le, div-lt-iff-lt-mul}
 use native.Mathlib.Omega.{arith}
 use lib.Dec.{T, leb, ltb, lit≤, leb→le, le→leb, lt→ltb}
-use lib.Ieee.{Float, nan, inf, fin, binary64, up, down, below, lt, le, ofInt, toSigned, inFloat}
+use lib.Ieee.{Float, fin, binary64, up, down, below, lt, le, ofInt, toSigned, inFloat}
 use lib.Ieee.Fits.{down-pos}
 use lib.Ieee.Exact.{HasValue}
 use lib.Ieee.Nearest.{div-same}

@@ -1,17 +1,16 @@
 -- A coordinate that is taken: the two tests of its size, and its product with 65,536, which is exact.
-use mathlib.Core.Path.{_≡_, refl, sym, ap, subst, _∙_}
+use mathlib.Core.Path.{_≡_, refl, sym, ap, _∙_}
 use mathlib.Core.Bool.{Bool, true, false, _&&_, _||_, false≢true}
-use lib.IntN.{ℤ, pos, negsuc, negℤ, natAbs}
-use Prim.Native.Nat.{ℕ, zero, suc, _+_, _-_, _*_, _/_, _%_, _^_, _≤_, _<_, min}
-use native.Mathlib.Nat.{mul-assoc, mul-one, mul-comm, mul-right-comm, mul-pos, mul-le-mul-right, mul-le-mul-left}
-use native.Mathlib.Nat.{le-trans, le-of-eq, lt-of-le-of-lt, le-of-mul-le-mul-right, not-le-of-lt, div-le-of-le-mul}
+use lib.IntN.{ℤ, pos, negsuc}
+use Prim.Native.Nat.{ℕ, zero, suc, _+_, _-_, _*_, _%_, _^_, _≤_, _<_}
+use native.Mathlib.Nat.{mul-assoc, mul-one, mul-right-comm, mul-le-mul-right}
+use native.Mathlib.Nat.{le-trans, le-of-eq, lt-of-le-of-lt, le-of-mul-le-mul-right, not-le-of-lt}
 use native.Mathlib.Omega.{arith}
-use lib.Dec.{T, eqb, leb, ltb, lit<, lit≤, lt→ltb, ltb→lt, leb→le, eqb→eq}
-use lib.Pow.{pow-add, pow-pos, pow-lt}
-use lib.Ieee.{Float, nan, inf, fin, binary64, up, down, unlike, below, round, mul, lt, eq, le, toSigned, fits}
+use lib.Dec.{T, eqb, leb, ltb, lit<, lit≤, ltb→lt, leb→le, eqb→eq}
+use lib.Pow.{pow-add, pow-lt}
+use lib.Ieee.{Float, nan, inf, fin, binary64, up, down, round, mul, le, fits}
 use lib.Ieee.Fits.{up-pos, down-pos, and-l, and-r}
 use lib.Ieee.Exact.{HasValue, round-exact}
-use lib.Ieee.Nearest.{div-same}
 use borrow.Author.Tests.{ltb-true, ltb-false, leb-true, leb-false, eqb-true, eqb-false, lt-ltb, le-leb, lt-leb}
 use Rattle.rules.specs.Values.{fraction}
 use Rattle.rules.specs.Probes.{signed, roundedDown, coordinateOk}

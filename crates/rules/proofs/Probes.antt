@@ -19,7 +19,7 @@ use Rattle.rules.specs.Values.{pick, IsValue, isNeg, below, fraction}
 use Rattle.rules.specs.Probes.{signed, over, under, isFinite, bitsExponent, bitsOver, roundedDown, RoundsDown}
 use Rattle.rules.specs.Probes.{coordinateOk, storedFloat, Exactly}
 use Rattle.rules.proofs.Order.{at-most-not-below}
-use Rattle.rules.proofs.Quotient.{IsFloor, fraction-law}
+use Rattle.rules.proofs.Quotient.{fraction-law}
 
 pub under-pos : (c : Float) → 0 < under c
 under-pos nan = omega arith

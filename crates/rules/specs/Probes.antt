@@ -16,7 +16,8 @@ pub record Point : Type 0 where
   pub y : Float
   pub z : Float
 
--- The fraction that a coordinate is: over/under, since 2^e is up e/down e.
+-- The fraction that a coordinate is: over/under, since 2^e is up e/down e. What is not a number or infinite is none,
+-- and line 20 refuses it; 0/1 stands there.
 abbrev pub signed : Bool → ℕ → ℤ
 signed s n = pick s (negℤ (pos n)) (pos n)
 

@@ -1,8 +1,7 @@
 -- Unpacked, then run.
-use mathlib.Core.Path.{_≡_, sym}
+use mathlib.Core.Path.{sym}
 use lib.Seq.{length-take-le}
 use mir.Syntax.{w32}
-use Rattle.rules.specs.Tapes.{readTape}
 use Rattle.rules.proofs.Words.{back}
 use Rattle.probe.proofs.Probing.{runnable, evaluated}
 use borrow.Author.Needs.{needs}

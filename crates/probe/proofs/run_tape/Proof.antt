@@ -1,5 +1,4 @@
 -- With as many words as a tape may have clauses.
-use mathlib.Core.Path.{_≡_}
 use Rattle.rules.proofs.Accepted.{accepted-tape}
 use borrow.Author.Needs.{needs}
 use Rattle.probe.proofs.run_tape.Statement.{statement}

@@ -1,10 +1,9 @@
 -- The product is exact, its whole part is an i64, and the test says whether that is the unit or one above.
 use mathlib.Core.Path.{_≡_, sym, subst, _∙_}
-use mathlib.Core.Bool.{true}
 use lib.IntN.{ℤ, natAbs, _-ℤ_, pos}
 use Prim.Native.Nat.{_≤_}
 use lib.Dec.{T}
-use lib.Ieee.{binary64, ofBits, mul, toSigned, inFloat}
+use lib.Ieee.{binary64, ofBits, mul, toSigned}
 use mir.Syntax.{w64}
 use mir.Facts.{toZ-ofZ}
 use Rattle.rules.specs.Probes.{roundedDown}
