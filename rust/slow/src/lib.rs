@@ -21,6 +21,7 @@ pub mod call;
 pub mod draw;
 pub mod fault;
 pub mod netpbm;
+pub mod probe;
 pub mod program;
 pub mod seen;
 pub mod tape;
