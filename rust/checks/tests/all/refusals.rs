@@ -43,13 +43,13 @@ const CLAUSE_FAULTS: [(usize, usize, i32, u8); 22] = [
 ];
 
 /// Something put wrong, and the number and the place that come back for it alone.
-struct Wrong<T> {
+pub struct Wrong<T> {
     number: u8,
     place: u32,
     put: Box<dyn Fn(&mut T)>,
 }
 
-fn wrong<T>(number: u8, put: impl Fn(&mut T) + 'static) -> Wrong<T> {
+pub fn wrong<T>(number: u8, put: impl Fn(&mut T) + 'static) -> Wrong<T> {
     Wrong { number, place: 0, put: Box::new(put) }
 }
 
@@ -57,8 +57,18 @@ fn wrong_at<T>(number: u8, place: usize, put: impl Fn(&mut T) + 'static) -> Wron
     Wrong { number, place: place as u32, put: Box::new(put) }
 }
 
+/// A good input of the drawings, for the tests of other calls too.
+pub fn good() -> Drawing {
+    good_drawing()
+}
+
+/// What can be wrong with a tape, for the tests of other calls too: 1 to 9.
+pub fn wrong_tapes<T: 'static>(tape: fn(&mut T) -> &mut Vec<u8>) -> Vec<Wrong<T>> {
+    tape_wrongs(tape)
+}
+
 /// Tries each alone and any two at once on a good input; they stand in the order of the checks.
-fn try_all<T: Clone>(good: &T, wrongs: &[Wrong<T>], mut answers: impl FnMut(&T, Answer)) {
+pub fn try_all<T: Clone>(good: &T, wrongs: &[Wrong<T>], mut answers: impl FnMut(&T, Answer)) {
     for (i, first) in wrongs.iter().enumerate() {
         for second in &wrongs[i..] {
             let mut input = good.clone();
