@@ -1,19 +1,22 @@
 //! The probe against the slow one: the request's figures, random tapes and points, refusals, planted faults.
 
-use crate::refusals::{good, try_all, wrong, wrong_tapes};
+use crate::refusals::{SLOTS, WIDE_SLOTS, tape_of, tape_wrongs, try_all, wrong};
+use checks::compare::answer;
 use checks::lists::List;
 use checks::probe::{Probing, axis_tape};
 use checks::random::cases;
+use layers::raw;
 use slow::call::Answer;
 use slow::probe::{self, Fault, Probed};
 
-/// The probe that is tried.
-fn tried(tape: &[u8], point: [f64; 3]) -> Probed {
-    probe::probe(tape, point)
+/// The core's probe.
+pub fn core(tape: &[u8], [x, y, z]: [f64; 3]) -> Probed {
+    let said = raw::probe(tape, raw::Point { x, y, z });
+    Probed { answer: answer(said.answer), side: said.side, bits: said.value.to_bits() }
 }
 
 fn compared(case: &Probing) -> Probed {
-    case.compare(tried, probe::probe).unwrap_or_else(|e| panic!("{e}"))
+    case.compare(core, probe::probe).unwrap_or_else(|e| panic!("{e}"))
 }
 
 /// What comes back: the number, the side and the value.
@@ -89,18 +92,20 @@ fn random_points() {
 /// Lines 1 to 9, then 20.
 #[test]
 fn refusals() {
-    let mut wrongs = wrong_tapes(|p: &mut Probing| &mut p.tape);
-    for axis in 0..3 {
-        wrongs.push(wrong(20, move |p: &mut Probing| p.point[axis] = f64::NAN));
-        wrongs.push(wrong(20, move |p: &mut Probing| p.point[axis] = f64::NEG_INFINITY));
-        wrongs.push(wrong(20, move |p: &mut Probing| p.point[axis] = 32_767.000_000_001));
-        wrongs.push(wrong(20, move |p: &mut Probing| p.point[axis] = -1e300));
+    for slots in [SLOTS, WIDE_SLOTS] {
+        let mut wrongs = tape_wrongs(slots, |p: &mut Probing| &mut p.tape);
+        for axis in 0..3 {
+            wrongs.push(wrong(20, move |p: &mut Probing| p.point[axis] = f64::NAN));
+            wrongs.push(wrong(20, move |p: &mut Probing| p.point[axis] = f64::NEG_INFINITY));
+            wrongs.push(wrong(20, move |p: &mut Probing| p.point[axis] = 32_767.000_000_001));
+            wrongs.push(wrong(20, move |p: &mut Probing| p.point[axis] = -1e300));
+        }
+        let good = Probing { tape: tape_of(slots), point: [1.0, 2.0, 3.0] };
+        assert_eq!(compared(&good).answer.number, 0);
+        try_all(&good, &wrongs, |case, expected: Answer| {
+            assert_eq!(compared(case), Probed { answer: expected, side: 0, bits: 0 }, "{case:?}");
+        });
     }
-    let good = Probing { tape: good().tape, point: [1.0, 2.0, 3.0] };
-    assert_eq!(compared(&good).answer.number, 0);
-    try_all(&good, &wrongs, |case, expected: Answer| {
-        assert_eq!(compared(case), Probed { answer: expected, side: 0, bits: 0 }, "{case:?}");
-    });
 }
 
 #[test]
@@ -108,7 +113,7 @@ fn planted_faults_are_caught() {
     for &fault in Fault::ALL {
         let mut differ = 0;
         Probing::each(&format!("{fault:?}"), 0x5EED_0041, 2_000, |case| {
-            differ += case.compare(tried, |t, p| probe::faulty(fault, t, p)).is_err() as u64;
+            differ += case.compare(core, |t, p| probe::faulty(fault, t, p)).is_err() as u64;
         });
         assert!(differ > 0, "{fault:?} is not caught");
     }

@@ -13,7 +13,7 @@ use slow::draw::Grid;
 use slow::tape::Tape;
 
 /// Slots 4 to 7 are never written. Clause 2 is a constant, clause 3 an addition.
-const SLOTS: u32 = 8;
+pub const SLOTS: u32 = 8;
 const LIST: [[i32; 5]; 5] = [[1, 0, 0, 0, 0], [2, 1, 0, 0, 0], [0, 2, 0, 0, 5], [9, 3, 0, 1, 0], [13, 0, 3, 2, 0]];
 
 /// Clause, field, a wrong value of it, the number returned: in the order of the checks.
@@ -57,16 +57,6 @@ fn wrong_at<T>(number: u8, place: usize, put: impl Fn(&mut T) + 'static) -> Wron
     Wrong { number, place: place as u32, put: Box::new(put) }
 }
 
-/// A good input of the drawings, for the tests of other calls too.
-pub fn good() -> Drawing {
-    good_drawing()
-}
-
-/// What can be wrong with a tape, for the tests of other calls too: 1 to 9.
-pub fn wrong_tapes<T: 'static>(tape: fn(&mut T) -> &mut Vec<u8>) -> Vec<Wrong<T>> {
-    tape_wrongs(tape)
-}
-
 /// Tries each alone and any two at once on a good input; they stand in the order of the checks.
 pub fn try_all<T: Clone>(good: &T, wrongs: &[Wrong<T>], mut answers: impl FnMut(&T, Answer)) {
     for (i, first) in wrongs.iter().enumerate() {
@@ -80,9 +70,9 @@ pub fn try_all<T: Clone>(good: &T, wrongs: &[Wrong<T>], mut answers: impl FnMut(
 }
 
 /// Also the same list in more slots, of which the tape is of edition 02.
-const WIDE_SLOTS: u32 = 72;
+pub const WIDE_SLOTS: u32 = 72;
 
-fn tape_of(slots: u32) -> Vec<u8> {
+pub fn tape_of(slots: u32) -> Vec<u8> {
     Tape::from_list(slots, &LIST.concat()).expect("an accepted list").to_bytes()
 }
 
@@ -162,7 +152,7 @@ fn clause_wrongs(slots: u32) -> Vec<Wrong<Vec<u8>>> {
 }
 
 /// What can be wrong with the tape of a larger input.
-fn tape_wrongs<T: 'static>(slots: u32, tape: fn(&mut T) -> &mut Vec<u8>) -> Vec<Wrong<T>> {
+pub fn tape_wrongs<T: 'static>(slots: u32, tape: fn(&mut T) -> &mut Vec<u8>) -> Vec<Wrong<T>> {
     let of = |w: Wrong<Vec<u8>>| wrong_at(w.number, w.place as usize, move |t: &mut T| (w.put)(tape(t)));
     head_wrongs(slots).into_iter().chain(clause_wrongs(slots)).map(of).collect()
 }
