@@ -26,7 +26,8 @@ pub fn most_clauses() {
     say::answer(b"1,024 clauses unpacked", listed.answer);
 }
 
-// 1,025 give 3. The tape's head tells of one slot and so many clauses.
+// 1,025 give 3 in edition 01 only: packed they are of edition 02. The head put in its place tells of edition 01, one
+// slot and so many clauses.
 pub fn too_many_clauses() {
     let mut list = given::long_list();
     let mut tape = given::long_room();

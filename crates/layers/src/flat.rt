@@ -48,12 +48,12 @@ fn draw_many(tape: &[u8], grid: Grid, picture: &mut [u8]) -> u64
 fn draw_long(tape: &[u8], grid: Grid, picture: &mut [u8]) -> Answer
     ensures { λ r. ⌜ FullSays false (now (tape .entry)) grid (now (picture .entry)) (now (picture .exit)) r ⌝ }
 {
-    let checked = check_tape(tape);
+    let again = check_tape(tape);
     let grid_line = grid_fault(false, grid);
     let length_line = length_fault(false, grid, picture.len());
-    let fault = first_fault(&[checked.number, grid_line, length_line]);
+    let fault = first_fault(&[again.number, grid_line, length_line]);
     if fault != 0 {
-        return refused(fault, checked.place);
+        return refused(fault, again.place);
     }
     done(draw_many(tape, grid, picture))
 }
@@ -166,13 +166,13 @@ fn tile_long(tape: &[u8], grid: Grid, picture: &mut [u8], work: &mut [u8]) -> An
     ensures { λ r. ⌜ TilesSay false (now (tape .entry)) grid (now (picture .entry)) (now (picture .exit))
         (now (work .entry)) (now (work .exit)) r ⌝ }
 {
-    let checked = check_tape(tape);
+    let again = check_tape(tape);
     let grid_line = grid_fault(false, grid);
     let length_line = length_fault(false, grid, picture.len());
     let work_line = work_fault(work.len());
-    let fault = first_fault(&[checked.number, grid_line, length_line, work_line]);
+    let fault = first_fault(&[again.number, grid_line, length_line, work_line]);
     if fault != 0 {
-        return refused(fault, checked.place);
+        return refused(fault, again.place);
     }
     let count = tile_many(tape, grid, picture, work);
     clear(work);

@@ -63,8 +63,8 @@ fn edition_01_uses_little_stack() {
 /// A tape of edition 02 has arrays of 6,144 words, 48 KiB each, whatever its length.
 #[test]
 fn edition_02_uses_more_stack() {
-    runs_on(256 * 1024, mixed(128, 6144));
-    runs_on(256 * 1024, mixed(65, 70));
+    runs_on(320 * 1024, mixed(128, 6144));
+    runs_on(320 * 1024, mixed(65, 70));
 }
 
 /// A probe has one array of 6,144 words for a tape of either edition.
