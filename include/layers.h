@@ -34,6 +34,7 @@
  *   12 picture buffer not of the exact length
  *   13 work buffer below 32,768 bytes
  *   14 packing, unpacking or file: output not of the exact length
+ *   20 probe: a coordinate not a number, infinite, or above 32,767 in magnitude
  */
 #ifndef LAYERS_H
 #define LAYERS_H
@@ -58,6 +59,25 @@ typedef struct {
     LayersAnswer answer;
     uint8_t slots;
 } LayersListed;
+
+/* A point, for a probe. */
+typedef struct {
+    double x;
+    double y;
+    double z;
+} LayersPoint;
+
+#define LAYERS_REFUSED 0
+#define LAYERS_INSIDE 1
+#define LAYERS_OUTSIDE 2
+#define LAYERS_SURFACE 3
+
+/* The answer of a probe, the side of the surface that the point lies on, and inside and outside the value (else 0). */
+typedef struct {
+    LayersAnswer answer;
+    uint8_t side;
+    double value;
+} LayersProbed;
 
 /*
  * Sample i on an axis is origin + i * step + step / 2, rounded down: each pixel stands for the middle of its cell. A
@@ -100,6 +120,9 @@ LayersAnswer layers_write_bitmap(uint32_t width, uint32_t height, const uint8_t 
                                  size_t out_len);
 LayersAnswer layers_write_heights(uint32_t width, uint32_t height, const uint16_t *picture, size_t picture_len, uint8_t *out,
                                   size_t out_len);
+
+/* The formula at a point, each coordinate rounded down to a unit of 1/65,536; the value is exact. */
+LayersProbed layers_probe(const uint8_t *tape, size_t tape_len, LayersPoint point);
 
 #ifdef __cplusplus
 }

@@ -5,3 +5,4 @@ pub mod Drawing
 pub mod Tiling
 pub mod DemandTwo
 pub mod DemandThree
+pub mod Probes

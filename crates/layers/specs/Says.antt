@@ -14,8 +14,14 @@ use Rattle.picture.specs.Shapes.{gridIn}
 use Rattle.picture.specs.declared.grid.Grid.{Grid}
 use Rattle.packing.specs.Packing.{copyFault}
 use Rattle.netpbm.specs.Files.{fileFault}
+use Rattle.rules.specs.Probes.{probeFault, probedValue}
+use Rattle.probe.specs.Points.{pointIn}
+use Rattle.probe.specs.Sides.{probeOf, sideNumber, sideValue}
+use Rattle.probe.specs.declared.point.Point.{Point}
 use Rattle.layers.specs.declared.Answer.{Answer}
 use Rattle.layers.specs.declared.Listed.{Listed}
+use Rattle.layers.specs.declared.probing.Probed.{Probed}
+use Rattle.layers.specs.declared.probing.Sided.{Sided}
 
 -- "A call returns number, place, count. Place is the clause index, from 0, in the tape or list at fault for 5 to 9,
 -- otherwise 0. A number other than 0 has count 0".
@@ -88,3 +94,15 @@ pub record TilesSay (isSolid : Bool) (s : List ℕ) (d : Grid) (o o′ w w′ : 
       let n = tileFault isSolid s g (length o) (length w) in
       o′ ≡ written n (picture isSolid g (D.walked (readTape s .tape) g .heights)) o
   pub work : w′ ≡ written (tileFault isSolid s (gridIn d isSolid) (length o) (length w)) (replicate (length w) 0) w
+
+-- The probe: lines 1 to 9, then 20, and the side of the full tape's value at the rounded point. It draws no picture, so
+-- its count is 0, and nothing is lent to be written.
+pub record ProbeSays (s : List ℕ) (p : Point) (r : Probed) : Type 0 where
+  pub answer : Answered (probeFault s (pointIn p)) (readTape s .place) 0 (r .answer)
+  pub side : r .probe ≡ probeOf (probeFault s (pointIn p)) (probedValue s (pointIn p))
+
+-- The same without enums: the number of the case, and its value.
+pub record SidedSays (s : List ℕ) (p : Point) (r : Sided) : Type 0 where
+  pub answer : Answered (probeFault s (pointIn p)) (readTape s .place) 0 (r .answer)
+  pub side : r .side ≡ sideNumber (probeOf (probeFault s (pointIn p)) (probedValue s (pointIn p)))
+  pub value : r .value ≡ sideValue (probeOf (probeFault s (pointIn p)) (probedValue s (pointIn p)))

@@ -1,5 +1,6 @@
 // The public calls. Each checks what it is lent, in the scope paper's order, and then calls.
 mod flat;
+mod probing;
 mod solid;
 mod steps;
 
@@ -7,6 +8,10 @@ pub use flat::draw_flat;
 pub use flat::tile_flat;
 use packing::pack;
 use packing::unpack;
+pub use probing::Probed;
+pub use probing::Sided;
+pub use probing::probe;
+pub use probing::probe_side;
 pub use solid::draw_solid;
 pub use solid::tile_solid;
 ghost use mathlib.Core.Path.{_≡_};

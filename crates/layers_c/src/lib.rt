@@ -2,9 +2,12 @@
 // does.
 use layers::Answer;
 use layers::Listed;
+use layers::Sided;
 use picture::grid::Grid;
+use probe::point::Point;
 ghost use mathlib.Core.Bool.{true, false};
 ghost use Rattle.layers.specs.Says.{PackSays, UnpackSays, FullSays, TilesSay, BitmapSays, HeightsSay};
+ghost use Rattle.layers.specs.Says.{SidedSays};
 
 #[no_mangle]
 pub extern "C" fn layers_pack_tape(slots: u32, list: &[i32], out: &mut [u8]) -> Answer
@@ -82,4 +85,11 @@ pub extern "C" fn layers_write_heights(
     ensures { λ r. ⌜ HeightsSay width height (now (picture .entry)) (now (out .entry)) (now (out .exit)) r ⌝ }
 {
     layers::write_heights(width, height, picture, out)
+}
+
+#[no_mangle]
+pub extern "C" fn layers_probe(tape: &[u8], point: Point) -> Sided
+    ensures { λ r. ⌜ SidedSays (now (tape .entry)) point r ⌝ }
+{
+    layers::probe_side(tape, point)
 }

@@ -5,6 +5,7 @@ use mathlib.Core.Bool.{false}
 use mathlib.Core.List.{List, [], _∷_, _++_, map}
 use lib.IntN.{ℤ, pos, negℤ}
 use Prim.Native.Nat.{ℕ}
+use lib.Ieee.{binary64, ofBits, ofInt, div}
 use Rattle.rules.specs.Values.{smaller, larger, sum, difference, product, square, rootFrom, rootOf, Clause, Range}
 use Rattle.rules.specs.Values.{quotient, quotientR, Sample, binaryValue, valueOf}
 use Rattle.rules.specs.Values.{range, Box, holdsZero, absoluteR, squareR, rootR, productR, sumR, differenceR}
@@ -15,6 +16,7 @@ use Rattle.rules.specs.Tapes.{rangeFrom, rangeOver, shortened, listOf, R
 use Rattle.rules.specs.Tapes.{badRead, clauseFault}
 use Rattle.rules.specs.Marks.{asMarked, keptBy, newMark, refined, wholeMarks, keptTape, marksOver}
 use Rattle.rules.specs.Drawings.{Grid, at, sampleAt, gridFault}
+use Rattle.rules.specs.Probes.{over, under, roundedDown, coordinateOk, pointFault, storedFloat}
 
 -- A row of numbers: a range is its two ends, a tape is its list.
 pub record Row : Type 0 where
@@ -218,8 +220,55 @@ keptForms =
     ∷ (marks (marksOver five ms (onX (pos 6) (pos 7))) (0 ∷ (0 ∷ (0 ∷ (1 ∷ (2 ∷ [])))))
     ∷ []))
 
+-- Request T-04, coordinates by their bits: the unit that one is rounded down to, line 20 for a point with one of its
+-- three there, and the fraction that a stored value is in the answer.
+abbrev pub unit : ℕ → ℤ → Row
+unit b v = number (roundedDown (ofBits binary64 b)) v
+
+abbrev pub onEach : ℕ → ℕ → Row
+onEach b k =
+    let c = ofBits binary64 b in
+    let o = ofBits binary64 0 in
+    record {
+      given = pos (pointFault (record { x = c; y = o; z = o }))
+          ∷ (pos (pointFault (record { x = o; y = c; z = o }))
+          ∷ (pos (pointFault (record { x = o; y = o; z = c })) ∷ []));
+      said = pos k ∷ (pos k ∷ (pos k ∷ []));
+    }
+
+abbrev pub answered : ℤ → ℤ → ℕ → Row
+answered v n d =
+    let x = storedFloat v in
+    record { given = over x ∷ (pos (under x) ∷ []); said = n ∷ (pos d ∷ []) }
+
+-- −0.0, the least subnormals, 0.1, −1.5 units, ±32,767 and what lies next to it; not a number, infinite.
+abbrev pub probes : List Row
+probes =
+    unit 0x8000_0000_0000_0000 (pos 0)
+    ∷ (unit 0x1 (pos 0)
+    ∷ (unit 0x8000_0000_0000_0001 (minus 1)
+    ∷ (unit 0x3FB9_9999_9999_999A (pos 6553)
+    ∷ (unit 0xBFB9_9999_9999_999A (minus 6554)
+    ∷ (unit 0xBEF8_0000_0000_0000 (minus 2)
+    ∷ (unit 0x40DF_FFC0_0000_0000 (pos 2147418112)
+    ∷ (unit 0x40DF_FFBF_FFFF_FFFF (pos 2147418111)
+    ∷ (unit 0xC0DF_FFBF_FFFF_FFFF (minus 2147418112)
+    ∷ (onEach 0x40DF_FFC0_0000_0000 0
+    ∷ (onEach 0xC0DF_FFC0_0000_0000 0
+    ∷ (onEach 0x40DF_FFC0_0000_0001 20
+    ∷ (onEach 0xC0DF_FFC0_0000_0001 20
+    ∷ (onEach 0x7FEF_FFFF_FFFF_FFFF 20
+    ∷ (onEach 0x7FF0_0000_0000_0000 20
+    ∷ (onEach 0xFFF0_0000_0000_0000 20
+    ∷ (onEach 0x7FF8_0000_0000_0000 20
+    ∷ (onEach 0xFFF0_0000_0000_0001 20
+    ∷ (answered (minus 1) (minus 1) 65536
+    ∷ (answered (minus 131072) (minus 2) 1
+    ∷ (answered (pos 2147483647) (pos 2147483647) 65536
+    ∷ []))))))))))))))))))))
+
 abbrev pub rows : List Row
-rows = starred ++ worded ++ oneSlot ++ middles ++ quotients ++ dividing ++ keptForms
+rows = starred ++ worded ++ oneSlot ++ middles ++ quotients ++ dividing ++ keptForms ++ probes
 
 pub figures : map (λ r. r .given) rows ≡ map (λ r. r .said) rows
 unfolding smaller larger sum difference product square rootFrom rootOf quotient quotientR holdsZero absoluteR squareR
@@ -227,4 +276,5 @@ unfolding smaller larger sum difference product square rootFrom rootOf quotient 
     sideBelow sideAbove choiceOf choicesFrom reads isIn without onClause shortFrom lastOut shortened listOf sampleAt
     gridFault binaryValue valueOf badSlot badUnused badConstant badRead clauseFault
     asMarked keptBy newMark refined marksOver
+    ofBits coordinateOk pointFault ofInt div storedFloat
 figures = refl

@@ -7,6 +7,7 @@ pub mod Order
 pub mod Root
 pub mod Monotone
 pub mod Quotient
+pub mod Probes
 pub mod Arithmetic
 pub mod EndValues
 pub mod Reading

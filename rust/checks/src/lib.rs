@@ -7,6 +7,7 @@ pub mod files;
 pub mod grids;
 pub mod lists;
 pub mod packing;
+pub mod probe;
 pub mod program;
 pub mod random;
 pub mod shapes;

@@ -26,6 +26,30 @@ pub struct Listed {
     pub slots: u8,
 }
 
+/// A point, for a probe: three coordinates, in whole ones and not in units.
+#[repr(C)]
+#[derive(Clone, Copy, Debug, PartialEq)]
+pub struct Point {
+    /// Along the columns of a picture.
+    pub x: f64,
+    /// Along its rows.
+    pub y: f64,
+    /// Along its layers.
+    pub z: f64,
+}
+
+/// What comes back of a probe.
+#[repr(C)]
+#[derive(Clone, Copy, Debug, PartialEq)]
+pub struct Probed {
+    /// The answer; its count is 0.
+    pub answer: Answer,
+    /// 0 refused, 1 inside, 2 outside, 3 surface.
+    pub side: u8,
+    /// The formula's value inside and outside, otherwise 0.
+    pub value: f64,
+}
+
 /// Where the samples of a picture are: sample i on an axis is origin + i · step + step / 2, rounded down, in units of
 /// 1/65,536. So each pixel stands for the middle of its cell.
 ///
@@ -108,6 +132,7 @@ unsafe extern "C" {
         out: *mut u8,
         out_len: usize,
     ) -> Answer;
+    fn layers_probe(tape: *const u8, tape_len: usize, point: Point) -> Probed;
 }
 
 // SAFETY, of every call below: it takes any input, reads and writes within the lengths lent, and keeps no pointer, so a
@@ -171,4 +196,9 @@ pub fn write_bitmap(width: u32, height: u32, picture: &[u8], out: &mut [u8]) -> 
 /// The Netpbm grey file of a solid's heights.
 pub fn write_heights(width: u32, height: u32, picture: &[u16], out: &mut [u8]) -> Answer {
     unsafe { layers_write_heights(width, height, picture.as_ptr(), picture.len(), out.as_mut_ptr(), out.len()) }
+}
+
+/// The formula at a point, each coordinate rounded down to a unit.
+pub fn probe(tape: &[u8], point: Point) -> Probed {
+    unsafe { layers_probe(tape.as_ptr(), tape.len(), point) }
 }

@@ -76,11 +76,11 @@ const LEAST: i32 = -i32::MAX;
 const GREATEST: i32 = i32::MAX;
 
 refusals! {
-    /// A line of the core's table of refusals, in the table's order: the first has number 1. Clauses are counted
-    /// from 0.
+    /// A line of the core's table of refusals, in the table's order. Clauses are counted from 0.
     ///
-    /// A [`Tape`](crate::Tape) meets lines 1 to 9, a drawing of it 10 and 11. Lines 12 to 14 are about lent memory, so
-    /// only the calls of [`raw`](crate::raw) meet them, and 15 and 16 are about the input of the program `drawlayer`.
+    /// A [`Tape`](crate::Tape) meets lines 1 to 9, a drawing of it 10 and 11, a probe 20. Lines 12 to 14 are about lent
+    /// memory, so only the calls of [`raw`](crate::raw) meet them, and 15 and 16 are about the input of the program
+    /// `drawlayer`.
     ///
     /// ```
     /// use layers::{Refusal, Tape};
@@ -128,6 +128,8 @@ refusals! {
         "the input must begin with a grid record of 32 bytes, the first two of them 47 52, before the tape";
     16 SolidTooLarge, "program: depth above 0 and width or height above 128",
         "the program draws solids up to 128 wide and 128 high: draw a smaller grid, or set depth to 0 for a bitmap";
+    20 CoordinateOutOfRange, "probe: a coordinate not a number, infinite, or above 32,767 in magnitude",
+        "each coordinate of a point must be a number from -32767 to 32767";
 }
 
 impl Error for Refusal {}
@@ -156,17 +158,14 @@ mod tests {
 
     /// Every refusal, in table order.
     fn all() -> impl Iterator<Item = Refusal> {
-        (1..).map_while(|number| Refusal::from_number(number, 731))
+        (0..=u8::MAX).filter_map(|number| Refusal::from_number(number, 731))
     }
 
     #[test]
     fn numbers_are_in_table_order() {
-        assert_eq!(all().count(), LINES.len());
-        for (number, (refusal, line)) in (1..).zip(all().zip(LINES)) {
-            assert_eq!((refusal.number(), line.0), (number, number));
-        }
-        let others = (0..=u8::MAX).filter(|&number| number == 0 || usize::from(number) > LINES.len());
-        assert!(others.map(|number| Refusal::from_number(number, 0)).all(|none| none.is_none()));
+        let numbers: Vec<u8> = LINES.iter().map(|line| line.0).collect();
+        assert!(numbers[0] == 1 && numbers.is_sorted_by(|a, b| a < b));
+        assert_eq!(all().map(Refusal::number).collect::<Vec<_>>(), numbers);
     }
 
     #[test]

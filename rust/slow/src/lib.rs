@@ -22,6 +22,7 @@ pub mod draw;
 pub mod edition;
 pub mod fault;
 pub mod netpbm;
+pub mod probe;
 pub mod program;
 pub mod seen;
 mod slots;

@@ -13,7 +13,7 @@ use slow::draw::Grid;
 use slow::tape::Tape;
 
 /// Slots 4 to 7 are never written. Clause 2 is a constant, clause 3 an addition.
-const SLOTS: u32 = 8;
+pub const SLOTS: u32 = 8;
 const LIST: [[i32; 5]; 5] = [[1, 0, 0, 0, 0], [2, 1, 0, 0, 0], [0, 2, 0, 0, 5], [9, 3, 0, 1, 0], [13, 0, 3, 2, 0]];
 
 /// Clause, field, a wrong value of it, the number returned: in the order of the checks.
@@ -43,13 +43,13 @@ const CLAUSE_FAULTS: [(usize, usize, i32, u8); 22] = [
 ];
 
 /// Something put wrong, and the number and the place that come back for it alone.
-struct Wrong<T> {
+pub struct Wrong<T> {
     number: u8,
     place: u32,
     put: Box<dyn Fn(&mut T)>,
 }
 
-fn wrong<T>(number: u8, put: impl Fn(&mut T) + 'static) -> Wrong<T> {
+pub fn wrong<T>(number: u8, put: impl Fn(&mut T) + 'static) -> Wrong<T> {
     Wrong { number, place: 0, put: Box::new(put) }
 }
 
@@ -58,7 +58,7 @@ fn wrong_at<T>(number: u8, place: usize, put: impl Fn(&mut T) + 'static) -> Wron
 }
 
 /// Tries each alone and any two at once on a good input; they stand in the order of the checks.
-fn try_all<T: Clone>(good: &T, wrongs: &[Wrong<T>], mut answers: impl FnMut(&T, Answer)) {
+pub fn try_all<T: Clone>(good: &T, wrongs: &[Wrong<T>], mut answers: impl FnMut(&T, Answer)) {
     for (i, first) in wrongs.iter().enumerate() {
         for second in &wrongs[i..] {
             let mut input = good.clone();
@@ -70,9 +70,9 @@ fn try_all<T: Clone>(good: &T, wrongs: &[Wrong<T>], mut answers: impl FnMut(&T, 
 }
 
 /// Also the same list in more slots, of which the tape is of edition 02.
-const WIDE_SLOTS: u32 = 72;
+pub const WIDE_SLOTS: u32 = 72;
 
-fn tape_of(slots: u32) -> Vec<u8> {
+pub fn tape_of(slots: u32) -> Vec<u8> {
     Tape::from_list(slots, &LIST.concat()).expect("an accepted list").to_bytes()
 }
 
@@ -152,7 +152,7 @@ fn clause_wrongs(slots: u32) -> Vec<Wrong<Vec<u8>>> {
 }
 
 /// What can be wrong with the tape of a larger input.
-fn tape_wrongs<T: 'static>(slots: u32, tape: fn(&mut T) -> &mut Vec<u8>) -> Vec<Wrong<T>> {
+pub fn tape_wrongs<T: 'static>(slots: u32, tape: fn(&mut T) -> &mut Vec<u8>) -> Vec<Wrong<T>> {
     let of = |w: Wrong<Vec<u8>>| wrong_at(w.number, w.place as usize, move |t: &mut T| (w.put)(tape(t)));
     head_wrongs(slots).into_iter().chain(clause_wrongs(slots)).map(of).collect()
 }

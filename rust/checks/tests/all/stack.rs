@@ -1,5 +1,6 @@
-//! The stack that the drawings by tiles take.
+//! The stack that the drawings by tiles and a probe take.
 
+use crate::probe::core;
 use checks::compare::answer;
 use checks::drawing::Drawing;
 use checks::lists::List;
@@ -42,6 +43,16 @@ fn runs_on(stack: usize, list: List) {
     assert_eq!(thread.join().expect("no overflow"), [a, b]);
 }
 
+/// Probes in a thread of its own.
+fn probes_on(stack: usize, list: List) {
+    let (tape, point) = (list.tape(), [0.5, -0.25, 1.5]);
+    let expected = slow::probe::probe(&tape, point);
+    assert_eq!(expected.answer.number, 0);
+    let probe = move || core(&tape, point);
+    let thread = std::thread::Builder::new().stack_size(stack + THREAD).spawn(probe).expect("a thread");
+    assert_eq!(thread.join().expect("no overflow"), expected);
+}
+
 /// A tape of edition 01 takes less than 64 KiB.
 #[test]
 fn edition_01_uses_little_stack() {
@@ -54,4 +65,12 @@ fn edition_01_uses_little_stack() {
 fn edition_02_uses_more_stack() {
     runs_on(320 * 1024, mixed(128, 6144));
     runs_on(320 * 1024, mixed(65, 70));
+}
+
+/// A probe has one array of 6,144 words for a tape of either edition.
+#[test]
+fn probes_use_little_stack() {
+    for list in [mixed(64, 1024), mixed(3, 7), mixed(128, 6144), mixed(65, 70)] {
+        probes_on(64 * 1024, list);
+    }
 }
