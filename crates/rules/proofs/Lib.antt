@@ -13,6 +13,7 @@ pub mod Reading
 pub mod Places
 pub mod Accepted
 pub mod Runs
+pub mod Lent
 pub mod Needed
 pub mod Short
 pub mod ShortAccepted
