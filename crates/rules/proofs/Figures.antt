@@ -173,13 +173,14 @@ quotients =
     ∷ (number (quotient (pos 0) (pos 0)) (pos 0)
     ∷ (number (quotient (minus 5) (pos 0)) (minus 2147483647)
     ∷ (number (quotient (pos 2147483647) (minus 1)) (minus 2147483647)
+    ∷ (number (quotient (pos 2147483647) (pos 1)) (pos 2147483647)
     ∷ (number (quotient (pos 65536) (pos 3)) (pos 1431655765)
     ∷ (interval (quotientR (range (minus 131072) (pos 196608)) (range (minus 131072) (minus 65536)))
     (minus 196608) (pos 131072)
     ∷ (interval (quotientR (range (minus 3) (pos 5)) (range (pos 2) (pos 7))) (minus 98304) (pos 163840)
     ∷ (interval (quotientR (range (minus 3) (pos 5)) (range (pos 0) (pos 5))) (minus 2147483647) (pos 2147483647)
     ∷ (interval (quotientR (range (minus 3) (pos 5)) (range (minus 5) (pos 0))) (minus 2147483647) (pos 2147483647)
-    ∷ [])))))))))))))
+    ∷ []))))))))))))))
 
 -- As clauses: the left slot by the right one, one slot by itself as any two, never a choice; 14 is the last opcode.
 abbrev pub divides : ℕ → ℕ → Clause

@@ -1,15 +1,16 @@
 -- Values and ranges as the paper of formal statements has them, word for word, and each equal to the definition used
 -- here. Where text and parts are the same nothing is repeated: `pick`, `isNeg`, `top`, `rootFrom`, the records. What a
--- request has changed since is not here (docs/DECISIONS.md): the value and the range of a clause with two operands.
-use mathlib.Core.Path.{_≡_, refl, sym, ap, ap₂, _∙_}
+-- request has changed since is not here (docs/DECISIONS.md): the range of a clause with two operands. Its value is the
+-- paper's up to opcode 13, the paper's last.
+use mathlib.Core.Path.{_≡_, refl, sym, ap, ap₂, subst, _∙_}
 use mathlib.Core.Bool.{Bool, true, false, _&&_, not}
 use lib.IntN.{ℤ, pos, negsuc, negℤ, natAbs, subℕ, _+ℤ_, _-ℤ_, _*ℤ_}
-use Prim.Native.Nat.{ℕ, zero, suc, _+_, _-_, _*_, _/_, min}
+use Prim.Native.Nat.{ℕ, zero, suc, _+_, _-_, _*_, _/_, _≤_, _<_, min}
 use native.Mathlib.Omega.{arith}
 use lib.Dec.{eqb, ltb, leb, leb·suc-suc}
 use borrow.Author.Tests.{ltb-true, ltb-false, leb-true, leb-false, le-ltb, lt-ltb}
 use Rattle.rules.specs.Values
-use Rattle.rules.specs.Values.{pick, isNeg, top, rootFrom, Range, range}
+use Rattle.rules.specs.Values.{pick, isNeg, top, rootFrom, Clause, Sample, Range, range}
 
 -- Whole numbers.
 abbrev pub less : ℕ → ℕ → ℤ
@@ -176,6 +177,47 @@ chain1 o a =
 pub unary-same : (o : ℕ) (a : ℤ) → chain1 o a ≡ Values.unaryValue o a
 unfolding Values.unaryValue
 unary-same o a = cc (neg-same a, absolute-same a, square-same a, root-same a)
+
+abbrev pub chain2 : ℕ → ℤ → ℤ → ℤ
+chain2 o a b =
+    pick (eqb o 9) (clamped (plus a b))
+    (pick (eqb o 10) (clamped (minus a b))
+    (pick (eqb o 11) (product a b) (pick (eqb o 12) (smaller a b) (larger a b))))
+
+from-nine : (k : ℕ) (a b : ℤ) → k ≤ 4 → chain2 (9 + k) a b ≡ Values.binaryValue (9 + k) a b
+unfolding Values.binaryValue
+from-nine zero a b h = sum-same a b
+from-nine (suc zero) a b h = difference-same a b
+from-nine (suc (suc zero)) a b h = product-same a b
+from-nine (suc (suc (suc zero))) a b h = smaller-same a b
+from-nine (suc (suc (suc (suc zero)))) a b h = larger-same a b
+from-nine (suc (suc (suc (suc (suc k))))) a b h = absurd (omega arith)
+
+pub binary-same : (o : ℕ) (a b : ℤ) → 8 < o → o ≤ 13 → chain2 o a b ≡ Values.binaryValue o a b
+binary-same o a b l h =
+    let e : 9 + (o - 9) ≡ o = omega arith in
+    subst (λ n. chain2 n a b ≡ Values.binaryValue n a b) e (from-nine (o - 9) a b (omega arith))
+
+abbrev pub valueOf : ℕ → ℤ → Sample → ℤ → ℤ → ℤ
+valueOf o c s a b =
+    pick (eqb o 0) c
+    (pick (eqb o 1) (s .x)
+    (pick (eqb o 2) (s .y) (pick (eqb o 3) (s .z) (pick (leb o 8) (chain1 o a) (chain2 o a b)))))
+
+pub value-same : (c : Clause) (s : Sample) (a b : ℤ) → c .opcode ≤ 13
+    → valueOf (c .opcode) (c .constant) s a b ≡ Values.valueOf c s a b
+unfolding Values.valueOf
+value-same c s a b h =
+    let o = c .opcode in
+    ap
+    (λ v. pick (eqb o 0) (c .constant) (pick (eqb o 1) (s .x) (pick (eqb o 2) (s .y) (pick (eqb o 3) (s .z) v))))
+    (of-slots (leb o 8) refl)
+  where
+    of-slots : (t : Bool) → leb (c .opcode) 8 ≡ t
+        → pick t (chain1 (c .opcode) a) (chain2 (c .opcode) a b)
+        ≡ pick t (Values.unaryValue (c .opcode) a) (Values.binaryValue (c .opcode) a b)
+    of-slots true e = unary-same (c .opcode) a
+    of-slots false e = binary-same (c .opcode) a b (leb-false (c .opcode) 8 e) h
 
 -- Ranges.
 pub range-same : {a b c d : ℤ} → a ≡ c → b ≡ d → range a b ≡ range c d
