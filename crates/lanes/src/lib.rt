@@ -3,7 +3,7 @@
 use fixed::value;
 ghost use lib.IntN.{negℤ};
 ghost use Rattle.rules.specs.Values.{sum, difference, product, smaller, larger, quotient, absolute, square, rootOf};
-ghost use Rattle.lanes.specs.Lanes.{All, One, OneOfValues, Two};
+ghost use Rattle.lanes.specs.Lanes.{All, Shifts, One, OneOfValues, Two};
 
 // The same value in every lane.
 pub fn splat(v: i32) -> [i32; 8]
@@ -50,13 +50,27 @@ pub fn square(a: [i32; 8]) -> [i32; 8]
     r
 }
 
+// The shifts of all roots come first: counting zeros waits for the register that it writes.
+fn shifts(a: [i32; 8]) -> [u32; 8]
+    ensures { λ r. ⌜ Shifts r ⌝ }
+{
+    let mut r = [0u32; 8];
+    let mut k = 0;
+    while k < 8 {
+        r[k] = isqrt::shift_of(a[k]);
+        k += 1;
+    }
+    r
+}
+
 pub fn root(a: [i32; 8]) -> [i32; 8]
     ensures { λ r. ⌜ One rootOf a r ⌝ }
 {
+    let half = shifts(a);
     let mut r = [0i32; 8];
     let mut k = 0;
     while k < 8 {
-        r[k] = isqrt::root(a[k]);
+        r[k] = isqrt::root_with(a[k], half[k]);
         k += 1;
     }
     r

@@ -1,5 +1,6 @@
 -- `lanes::absolute`: the greater of a lane and what it leaves of 0.
 use mathlib.Core.Path.{_≡_, refl, _∙_}
+use lib.IntN.{pos}
 use borrow.Author.Needs.{needs, sfits-of}
 use native.Mathlib.Omega.{arith}
 use mir.Syntax.{w32}
@@ -14,13 +15,13 @@ use Rattle.lanes.proofs.absolute.Statement.{statement}
 use Rattle.lanes.proofs.absolute.Tie as tie
 
 abbrev Inv-loop : tie.InvT-loop
-Inv-loop a r₀ k₀ r k = (k ≤ laneCount) × Below (λ j v. IsValue (lane a j) → v ≡ absolute (lane a j)) r k
+Inv-loop a r₀ k₀ r k = (k ≤ laneCount) × Below (pos 0) (λ j v. IsValue (lane a j) → v ≡ absolute (lane a j)) r k
 
 abbrev μ-loop : tie.MeasureT-loop
 μ-loop a r₀ k₀ r k = laneCount - k
 
 loop-holds : tie.Need-loop-holds Inv-loop μ-loop
-loop-holds c = (omega arith, none-below _ _ refl)
+loop-holds c = (omega arith, none-below _ _ _ refl)
 
 mul-maximum : tie.Need-mul-maximum Inv-loop μ-loop
 mul-maximum c = search needs
@@ -60,14 +61,14 @@ loop-again c =
     let v = c .maximum in
     let e = toZ-ofZ (sfits-of (x .maximum-arg .given)) in (
       omega arith,
-      one-more _ (l .r) (l .k) _ (x .before .loop-test .taken) (l .inv .1) (λ h.
+      one-more _ _ (l .r) (l .k) _ (x .before .loop-test .taken) (l .inv .1) (λ h.
           back-two w32 larger (v .result) (v .ok) (v .ensures) e
           (back-two w32 difference (n .result) (n .ok) (n .ensures) refl (toZ-ofZ (sfits-of (c .before .before .subtract-arg .given))))
           ∙ greater-size _ h),
     )
 
 returns : tie.Need-returns Inv-loop μ-loop
-returns c = record { at = all-below _ _ _ (c .loop-test .left) (c .before .loop .inv .1) }
+returns c = record { at = all-below _ _ _ _ (c .loop-test .left) (c .before .loop .inv .1) }
 
 pub absolute-spec : {M : Type 1} → statement M
 absolute-spec =

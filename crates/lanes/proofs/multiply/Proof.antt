@@ -1,5 +1,6 @@
 -- `lanes::multiply`: lane by lane.
 use mathlib.Core.Path.{_≡_, refl}
+use lib.IntN.{pos}
 use borrow.Author.Needs.{needs, sfits-of}
 use native.Mathlib.Omega.{arith}
 use mir.Syntax.{w32}
@@ -13,13 +14,13 @@ use Rattle.lanes.proofs.multiply.Statement.{statement}
 use Rattle.lanes.proofs.multiply.Tie as tie
 
 abbrev Inv-loop : tie.InvT-loop
-Inv-loop a b r₀ k₀ r k = (k ≤ laneCount) × Below (λ j v. v ≡ product (lane a j) (lane b j)) r k
+Inv-loop a b r₀ k₀ r k = (k ≤ laneCount) × Below (pos 0) (λ j v. v ≡ product (lane a j) (lane b j)) r k
 
 abbrev μ-loop : tie.MeasureT-loop
 μ-loop a b r₀ k₀ r k = laneCount - k
 
 loop-holds : tie.Need-loop-holds Inv-loop μ-loop
-loop-holds c = (omega arith, none-below _ _ refl)
+loop-holds c = (omega arith, none-below _ _ _ refl)
 
 mul-multiply : tie.Need-mul-multiply Inv-loop μ-loop
 mul-multiply c = search needs
@@ -54,13 +55,13 @@ loop-again c =
     let l = x .before .before .loop in
     let v = c .multiply in (
       omega arith,
-      one-more _ (l .r) (l .k) _ (x .before .loop-test .taken) (l .inv .1)
+      one-more _ _ (l .r) (l .k) _ (x .before .loop-test .taken) (l .inv .1)
           (back-two w32 product (v .result) (v .ok) (v .ensures) (toZ-ofZ (sfits-of (x .multiply-arg .given)))
           (toZ-ofZ (sfits-of (c .before .multiply-arg2 .given)))),
     )
 
 returns : tie.Need-returns Inv-loop μ-loop
-returns c = record { at = all-below _ _ _ (c .loop-test .left) (c .before .loop .inv .1) }
+returns c = record { at = all-below _ _ _ _ (c .loop-test .left) (c .before .loop .inv .1) }
 
 pub multiply-spec : {M : Type 1} → statement M
 multiply-spec =

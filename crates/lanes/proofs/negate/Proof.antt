@@ -5,7 +5,7 @@ use native.Mathlib.Omega.{arith}
 use mir.Syntax.{w32}
 use mir.Facts.{toZ-ofZ}
 use Prim.Native.Nat.{_-_, _≤_}
-use lib.IntN.{negℤ}
+use lib.IntN.{pos, negℤ}
 use Rattle.rules.specs.Values.{IsValue, difference}
 use Rattle.fixed.proofs.Words.{back-two}
 use Rattle.lanes.proofs.LaneLaws.{zero-less}
@@ -15,13 +15,13 @@ use Rattle.lanes.proofs.negate.Statement.{statement}
 use Rattle.lanes.proofs.negate.Tie as tie
 
 abbrev Inv-loop : tie.InvT-loop
-Inv-loop a r₀ k₀ r k = (k ≤ laneCount) × Below (λ j v. IsValue (lane a j) → v ≡ negℤ (lane a j)) r k
+Inv-loop a r₀ k₀ r k = (k ≤ laneCount) × Below (pos 0) (λ j v. IsValue (lane a j) → v ≡ negℤ (lane a j)) r k
 
 abbrev μ-loop : tie.MeasureT-loop
 μ-loop a r₀ k₀ r k = laneCount - k
 
 loop-holds : tie.Need-loop-holds Inv-loop μ-loop
-loop-holds c = (omega arith, none-below _ _ refl)
+loop-holds c = (omega arith, none-below _ _ _ refl)
 
 mul-subtract : tie.Need-mul-subtract Inv-loop μ-loop
 mul-subtract c = search needs
@@ -50,13 +50,13 @@ loop-again c =
     let l = x .before .before .loop in
     let v = c .subtract in (
       omega arith,
-      one-more _ (l .r) (l .k) _ (x .before .loop-test .taken) (l .inv .1) (λ h.
+      one-more _ _ (l .r) (l .k) _ (x .before .loop-test .taken) (l .inv .1) (λ h.
           back-two w32 difference (v .result) (v .ok) (v .ensures) refl (toZ-ofZ (sfits-of (x .subtract-arg .given)))
           ∙ zero-less _ h),
     )
 
 returns : tie.Need-returns Inv-loop μ-loop
-returns c = record { at = all-below _ _ _ (c .loop-test .left) (c .before .loop .inv .1) }
+returns c = record { at = all-below _ _ _ _ (c .loop-test .left) (c .before .loop .inv .1) }
 
 pub negate-spec : {M : Type 1} → statement M
 negate-spec =
