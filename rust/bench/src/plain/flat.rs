@@ -1,7 +1,8 @@
 //! The flat drawing by tiles.
 
 use super::arith::Span;
-use super::run::{Slots, run_ranges, run_values};
+use super::lanes::{Lanes, run_row};
+use super::run::{Slots, run_ranges};
 use super::shorten::shorten;
 use super::word::words;
 use super::{Choices, Level, MAX_CLAUSES, axis, sample};
@@ -12,7 +13,7 @@ pub fn tile_flat(tape: &[u8], grid: Grid, picture: &mut [u8]) -> u64 {
     picture.fill(0);
     let row = (grid.width as usize).div_ceil(8);
     let mut walk =
-        Walk { grid, row, picture, choices: [0; MAX_CLAUSES], ranges: Slots::new(), values: [0; 64], count: 0 };
+        Walk { grid, row, picture, choices: [0; MAX_CLAUSES], ranges: Slots::new(), values: [[0; 8]; 64], count: 0 };
     let all = Region { x: 0, xend: grid.width, y: 0, yend: grid.height };
     walk.visit_children(&words(tape), all, 64, &mut [[0; MAX_CLAUSES]; 2]);
     walk.count
@@ -34,7 +35,7 @@ struct Walk<'a> {
     picture: &'a mut [u8],
     choices: Choices,
     ranges: Slots,
-    values: [i32; 64],
+    values: [Lanes; 64],
     count: u64,
 }
 
@@ -73,18 +74,16 @@ impl Walk<'_> {
         ]
     }
 
-    /// A region of side 8 is one byte in each row of the picture.
+    /// A region of side 8 is one byte in each row of the picture. Lanes past the grid's edge run on the last sample.
     fn visit_samples(&mut self, code: &[u64], region: Region) {
         let grid = self.grid;
+        let width = (region.xend - region.x) as usize;
+        let last = region.xend - 1;
+        let xs = std::array::from_fn(|k| sample(grid.xorigin, grid.xstep, last.min(region.x + k as u32)));
         for y in region.y..region.yend {
-            let mut byte = 0;
-            for x in region.x..region.xend {
-                let at = [sample(grid.xorigin, grid.xstep, x), sample(grid.yorigin, grid.ystep, y), grid.zorigin];
-                if run_values(code, at, &mut self.values) < 0 {
-                    byte |= 0x80 >> (x - region.x);
-                }
-            }
-            self.picture[y as usize * self.row + region.x as usize / 8] |= byte;
+            let row = run_row(code, xs, sample(grid.yorigin, grid.ystep, y), grid.zorigin, &mut self.values);
+            let byte = (0..width).fold(0, |byte, k| byte | ((row[k] < 0) as u8) << (7 - k));
+            self.picture[y as usize * self.row + region.x as usize / 8] = byte;
         }
         self.count += (region.xend - region.x) as u64 * (region.yend - region.y) as u64 * code.len() as u64;
     }
