@@ -6,6 +6,7 @@ mod draw;
 mod examples;
 mod faults;
 mod figures;
+mod lanes;
 mod program;
 mod refusals;
 mod stack;
