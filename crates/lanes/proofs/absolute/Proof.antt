@@ -59,11 +59,12 @@ loop-again c =
     let l = x .before .before .loop in
     let n = c .before .subtract in
     let v = c .maximum in
-    let e = toZ-ofZ (sfits-of (x .maximum-arg .given)) in (
+    let e = toZ-ofZ (sfits-of (x .maximum-arg .given)) in
+    let g = toZ-ofZ (sfits-of (c .before .before .subtract-arg .given)) in (
       omega arith,
       one-more _ _ (l .r) (l .k) _ (x .before .loop-test .taken) (l .inv .1) (λ h.
           back-two w32 larger (v .result) (v .ok) (v .ensures) e
-          (back-two w32 difference (n .result) (n .ok) (n .ensures) refl (toZ-ofZ (sfits-of (c .before .before .subtract-arg .given))))
+          (back-two w32 difference (n .result) (n .ok) (n .ensures) refl g)
           ∙ greater-size _ h),
     )
 

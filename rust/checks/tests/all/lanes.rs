@@ -1,5 +1,5 @@
-//! The lanes of a row run several at once: the proved archive has the machine's operations on four numbers side by side.
-//! The compiler makes them of the lanes or does not, and says nothing.
+//! The lanes of a row run several at once: the archive has the machine's operations on four numbers side by side. The
+//! compiler makes them of the lanes or does not, and says nothing.
 
 use std::path::{Path, PathBuf};
 

@@ -56,7 +56,9 @@ loop-again c =
     let v = c .sample in (
       omega arith,
       one-more _ _ (l .r) (l .k) _ (t .loop-test .taken) (l .inv .1)
-          (λ h. back w32 (v .result) (v .ok) (v .ensures ∙ ap (at (read w32 (a .origin)) (read w32 (a .step))) (c .before .lane-index .ensures .1 h))),
+          (λ h.
+          back w32 (v .result) (v .ok)
+          (v .ensures ∙ ap (at (read w32 (a .origin)) (read w32 (a .step))) (c .before .lane-index .ensures .1 h))),
     )
 
 returns : tie.Need-returns Inv-loop μ-loop

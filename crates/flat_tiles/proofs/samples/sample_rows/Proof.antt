@@ -55,7 +55,8 @@ lane-samples-requires c κs =
     let p = begun t .pre .1 in
     let f = told t in
     let d = ready-small (p .0) in
-    (span-words (f .xorigin) (f .xstep) (x-span false _ _ (p .1 .0) (p .0 .fault)), omega (arith, d .width, p .1 .0 .xs))
+    let x = x-span false _ _ (p .1 .0) (p .0 .fault) in
+    (span-words (f .xorigin) (f .xstep) x, omega (arith, d .width, p .1 .0 .xs))
 
 -- The samples that the lanes run on.
 samples : (c : tie.At-loop Inv-loop μ-loop)
