@@ -1,70 +1,110 @@
-// Side 1: the samples of a region of side 8, run on values, a row of at most 8 as one byte.
-use code::run::run_values;
-use fixed::clause::Sample;
+// Side 1: the samples of a region of side 8, a row of at most 8 in one sweep and stored as one byte.
 use picture::bits::paint_row;
 use picture::bits::with_pixel;
 use picture::grid::Grid;
 use picture::grid::sample;
+use sweep::run_row;
+use tape::SLOT_LIMIT;
 use walk::cell::Cell;
 ghost use mathlib.Core.Path.{_≡_};
 ghost use mathlib.Core.Bool.{false};
 ghost use mathlib.Core.List.{[]};
-ghost use Prim.Native.Nat.{ℕ, _-_, _%_, _<_};
-ghost use Rattle.rules.specs.Drawings.{gridFault, sampleAt, alongX, alongY};
+ghost use Prim.Native.Nat.{ℕ, _+_, _-_, _%_, _<_, _≤_};
+ghost use lib.ListN.{length};
+ghost use Rattle.rules.specs.Tapes.{slotLimit};
+ghost use Rattle.rules.specs.Drawings.{sizeLimit, gridFault, alongX, alongY};
 ghost use Rattle.rules.specs.Accepted.{Accepted};
-ghost use Rattle.fixed.specs.Shapes.{sampleIn};
 ghost use Rattle.code.specs.Words.{tapeIn};
-ghost use Rattle.code.specs.Runs.{SampleOk};
 ghost use Rattle.picture.specs.Bits.{rowByte};
 ghost use Rattle.picture.specs.Shapes.{gridIn};
-ghost use Rattle.walk.specs.Cells.{Ready, InGrid, CellOk};
+ghost use Rattle.walk.specs.Cells.{Ready, CellOk, SpanIn};
 ghost use Rattle.walk.specs.Walks.{Sound, Folds};
-ghost use Rattle.flat_tiles.specs.Rows.{materials};
+ghost use Rattle.flat_tiles.specs.Rows.{materials, LaneSamples, SignByte};
 
-// Its one z is the grid's, as given.
-fn sample_at(grid: Grid, x: u32, y: u32) -> Sample
-    requires { ⌜ gridFault false (gridIn grid false) ≡ 0 ⌝ }
-    requires { ⌜ InGrid 1 grid x y 0 ⌝ }
-    ensures { λ r. ⌜ (sampleIn r ≡ sampleAt (gridIn grid false) x y 0) × SampleOk (sampleIn r) ⌝ }
+// The index of a lane's sample: past the end the last one's again, so that every lane runs on a sample.
+fn lane_index(from: u32, end: u32, k: usize) -> u32
+    requires { ⌜ (from < end) × (end ≤ sizeLimit) × (k < 8) ⌝ }
+    ensures { λ r. ⌜ (r < end) × (from + k < end → r ≡ from + k) ⌝ }
 {
-    Sample {
-        x: sample(grid.xorigin, grid.xstep, x),
-        y: sample(grid.yorigin, grid.ystep, y),
-        z: grid.zorigin,
-    }
+    let i = from + k as u32;
+    if i < end { i } else { end - 1 }
 }
 
-// The parent's samples of row y, the first in the highest bit: 1 is material.
-fn row_byte(code: &[u64], grid: Grid, parent: Cell, y: u32) -> u8
-    requires { ⌜ Sound (now code) ⌝ }
-    requires { ⌜ gridFault false (gridIn grid false) ≡ 0 ⌝ }
-    requires { ⌜ CellOk 1 grid parent ⌝ }
-    requires { ⌜ (parent .side ≡ 8) × (y < parent .yend) ⌝ }
-    ensures { λ r. ⌜ ((n : ℕ) → Accepted (tapeIn n (now (code .entry)))
-        → r ≡ rowByte (materials (parent .xend - parent .x) (tapeIn n (now (code .entry))) (gridIn grid false)
-        (parent .x) y)) ⌝ }
+// The samples of an axis from an index on, one a lane.
+fn lane_samples(origin: i32, step: i32, from: u32, end: u32) -> [i32; 8]
+    requires { ⌜ SpanIn origin step from end ⌝ }
+    requires { ⌜ end ≤ sizeLimit ⌝ }
+    ensures { λ r. ⌜ LaneSamples origin step from end r ⌝ }
 {
-    let from = parent.x;
+    let mut r = [0i32; 8];
+    let mut k = 0;
+    while k < 8 {
+        r[k] = sample(origin, step, lane_index(from, end, k));
+        k += 1;
+    }
+    r
+}
+
+// The signs of the first lanes, the first in the highest bit: 1 is below 0.
+fn sign_byte(row: [i32; 8], count: u32) -> u8
+    requires { ⌜ count ≤ 8 ⌝ }
+    ensures { λ r. ⌜ SignByte count row r ⌝ }
+{
     let mut byte = 0u8;
-    let mut x = from;
-    while x < parent.xend {
-        let value = run_values(code, sample_at(grid, x, y));
-        byte = with_pixel(byte, x - from, value < 0);
-        x += 1;
+    let mut k = 0u32;
+    while k < count {
+        byte = with_pixel(byte, k, row[k as usize] < 0);
+        k += 1;
     }
     byte
 }
 
-// One row of samples of the parent, each counted as a run of the words. Several at once can stand behind this contract.
-fn sample_row(code: &[u64], grid: Grid, parent: Cell, y: u32, picture: &mut [u8]) -> u64
+// The parent's samples of row y, the first in the highest bit: 1 is material.
+fn row_byte(
+    code: &[u64],
+    grid: Grid,
+    parent: Cell,
+    xs: [i32; 8],
+    y: u32,
+    slots: &mut [[i32; 8]; SLOT_LIMIT],
+) -> u8
+    requires { ⌜ Sound (now code) ⌝ }
+    requires { ⌜ gridFault false (gridIn grid false) ≡ 0 ⌝ }
+    requires { ⌜ CellOk 1 grid parent ⌝ }
+    requires { ⌜ (parent .side ≡ 8) × (y < parent .yend) ⌝ }
+    requires { ⌜ LaneSamples (grid .xorigin) (grid .xstep) (parent .x) (parent .xend) xs ⌝ }
+    requires { ⌜ length (now slots) ≡ slotLimit ⌝ }
+    ensures { λ r. ⌜ ((n : ℕ) → Accepted (tapeIn n (now (code .entry)))
+        → r ≡ rowByte (materials (parent .xend - parent .x) (tapeIn n (now (code .entry))) (gridIn grid false)
+        (parent .x) y)) ⌝ }
+    ensures { λ _. ⌜ length (now (slots .exit)) ≡ slotLimit ⌝ }
+{
+    let at = sample(grid.yorigin, grid.ystep, y);
+    let row = run_row(code, xs, at, grid.zorigin, slots);
+    sign_byte(row, parent.xend - parent.x)
+}
+
+// One row of samples of the parent, each counted as a run of the words.
+fn sample_row(
+    code: &[u64],
+    grid: Grid,
+    parent: Cell,
+    xs: [i32; 8],
+    y: u32,
+    slots: &mut [[i32; 8]; SLOT_LIMIT],
+    picture: &mut [u8],
+) -> u64
     requires { ⌜ Sound (now code) ⌝ }
     requires { ⌜ Ready false grid (now picture) ⌝ }
     requires { ⌜ CellOk 1 grid parent ⌝ }
     requires { ⌜ (parent .side ≡ 8) × (parent .x % 8 ≡ 0) × (y < parent .yend) ⌝ }
+    requires { ⌜ LaneSamples (grid .xorigin) (grid .xstep) (parent .x) (parent .xend) xs ⌝ }
+    requires { ⌜ length (now slots) ≡ slotLimit ⌝ }
     ensures { λ r. ⌜ Folds false 8 (now (code .entry)) grid [] (alongX 8 (parent .x) y 0 1 (parent .xend))
         (now (picture .entry)) (now (picture .exit)) r ⌝ }
+    ensures { λ _. ⌜ length (now (slots .exit)) ≡ slotLimit ⌝ }
 {
-    let byte = row_byte(code, grid, parent, y);
+    let byte = row_byte(code, grid, parent, xs, y, slots);
     paint_row(
         picture,
         grid.width as usize,
@@ -84,10 +124,12 @@ pub fn sample_rows(code: &[u64], grid: Grid, parent: Cell, picture: &mut [u8]) -
         (alongY 8 8 (parent .x) (parent .y) 0 1 (parent .xend) (parent .yend))
         (now (picture .entry)) (now (picture .exit)) r ⌝ }
 {
+    let xs = lane_samples(grid.xorigin, grid.xstep, parent.x, parent.xend);
+    let mut slots = [[0i32; 8]; SLOT_LIMIT];
     let mut count: u64 = 0;
     let mut y = parent.y;
     while y < parent.yend {
-        count += sample_row(code, grid, parent, y, picture);
+        count += sample_row(code, grid, parent, xs, y, &mut slots, picture);
         y += 1;
     }
     count

@@ -14,6 +14,7 @@ pub mod Reading
 pub mod Places
 pub mod Accepted
 pub mod Runs
+pub mod Lent
 pub mod Needed
 pub mod Short
 pub mod ShortAccepted

@@ -4,6 +4,7 @@
 
 mod arith;
 mod flat;
+mod lanes;
 mod run;
 mod shorten;
 mod solid;

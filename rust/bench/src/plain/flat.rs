@@ -1,7 +1,8 @@
 //! The flat drawing by tiles.
 
 use super::arith::Span;
-use super::run::{Slots, run_ranges, run_values};
+use super::lanes::{Lanes, run_row};
+use super::run::{Slots, run_ranges};
 use super::shorten::shorten;
 use super::word::words;
 use super::{Choices, Level, SLOTS, axis, sample};
@@ -26,7 +27,7 @@ fn walked(tape: &[u8], grid: Grid, picture: &mut [u8], cut: impl FnMut(u32, usiz
     let code = words(tape);
     let row = (grid.width as usize).div_ceil(8);
     let choices = &mut vec![0; code.len()][..];
-    let mut walk = Walk { grid, row, picture, cut, choices, ranges: Slots::new(), values: [0; SLOTS], count: 0 };
+    let mut walk = Walk { grid, row, picture, cut, choices, ranges: Slots::new(), values: [[0; 8]; SLOTS], count: 0 };
     let all = Region { x: 0, xend: grid.width, y: 0, yend: grid.height };
     walk.visit_children(&code, all, 64, &mut [vec![0; code.len()], vec![0; code.len()]]);
     walk.count
@@ -49,7 +50,7 @@ struct Walk<'a, F> {
     cut: F,
     choices: &'a mut Choices,
     ranges: Slots,
-    values: [i32; SLOTS],
+    values: [Lanes; SLOTS],
     count: u64,
 }
 
@@ -89,18 +90,16 @@ impl<F: FnMut(u32, usize)> Walk<'_, F> {
         ]
     }
 
-    /// A region of side 8 is one byte in each row of the picture.
+    /// A region of side 8 is one byte in each row of the picture. Lanes past the grid's edge run on the last sample.
     fn visit_samples(&mut self, code: &[u64], region: Region) {
         let grid = self.grid;
+        let width = (region.xend - region.x) as usize;
+        let last = region.xend - 1;
+        let xs = std::array::from_fn(|k| sample(grid.xorigin, grid.xstep, last.min(region.x + k as u32)));
         for y in region.y..region.yend {
-            let mut byte = 0;
-            for x in region.x..region.xend {
-                let at = [sample(grid.xorigin, grid.xstep, x), sample(grid.yorigin, grid.ystep, y), grid.zorigin];
-                if run_values(code, at, &mut self.values) < 0 {
-                    byte |= 0x80 >> (x - region.x);
-                }
-            }
-            self.picture[y as usize * self.row + region.x as usize / 8] |= byte;
+            let row = run_row(code, xs, sample(grid.yorigin, grid.ystep, y), grid.zorigin, &mut self.values);
+            let byte = (0..width).fold(0, |byte, k| byte | ((row[k] < 0) as u8) << (7 - k));
+            self.picture[y as usize * self.row + region.x as usize / 8] = byte;
         }
         self.count += (region.xend - region.x) as u64 * (region.yend - region.y) as u64 * code.len() as u64;
     }

@@ -1,126 +1,68 @@
--- One more sample, one more bit.
-use mathlib.Core.Path.{_≡_, refl, ap, _∙_}
+-- The row's lanes, swept, and the byte of their signs.
+use mathlib.Core.Path.{_∙_}
 use mathlib.Core.Bool.{false}
-use mathlib.Core.List.{List}
-use Prim.Native.Nat.{ℕ, _-_, _≤_}
+use mir.Facts.{toZ-ofZ}
 use native.Mathlib.Omega.{arith}
-use Rattle.rules.specs.Tapes.{valueAt, material}
-use Rattle.rules.specs.Drawings.{sampleAt}
-use Rattle.rules.specs.Accepted.{Accepted}
-use Rattle.code.specs.Words.{tapeIn}
-use Rattle.picture.specs.Bits.{rowByte}
-use Rattle.picture.specs.Shapes.{gridIn}
-use Rattle.picture.specs.declared.grid.Grid.{Grid}
-use Rattle.walk.proofs.LookLaws.{sound-runs, fit-of}
-use Rattle.walk.proofs.Signs.{sign}
-use Rattle.flat_tiles.specs.Rows.{materials}
-use Rattle.flat_tiles.proofs.SampleRows.{materials-length, materials-next, no-samples}
+use borrow.Author.Needs.{needs}
+use Rattle.picture.proofs.Grids.{accepted}
+use Rattle.picture.proofs.GridWords.{InWords, in-words}
+use Rattle.walk.proofs.LookLaws.{sound-runs}
+use Rattle.flat_tiles.proofs.SampleLaws.{axis-asked, axis-answer}
+use Rattle.flat_tiles.proofs.SignRows.{row-signs}
 use Rattle.flat_tiles.proofs.samples.row_byte.Statement.{statement}
 use Rattle.flat_tiles.proofs.samples.row_byte.Tie as tie
 
-record RowSoFar (ws : List ℕ) (grid : Grid) (from end y made x : ℕ) : Type 0 where
-  above : from ≤ x
-  under : x ≤ end
-  byte : (n : ℕ) → Accepted (tapeIn n ws)
-      → made ≡ rowByte (materials (x - from) (tapeIn n ws) (gridIn grid false) from y)
-
--- At the row's end.
-all-so-far : {ws : List ℕ} {grid : Grid} {from end y made x : ℕ} → RowSoFar ws grid from end y made x → end ≤ x
-    → (n : ℕ) → Accepted (tapeIn n ws)
-    → made ≡ rowByte (materials (end - from) (tapeIn n ws) (gridIn grid false) from y)
-all-so-far {end = end} {x = x} r h n a = let e : x ≡ end = omega (arith, r .under) in rw e at (r .byte n a)
-
-abbrev Inv-loop : tie.InvT-loop
-Inv-loop code grid parent y from byte₀ x₀ byte x = RowSoFar code grid (parent .x) (parent .xend) y byte x
-
-abbrev μ-loop : tie.MeasureT-loop
-μ-loop code grid parent y from byte₀ x₀ byte x = parent .xend - x
-
--- The places: before the loop, at its test, in a turn, after the run, and past the loop.
-abbrev start : tie.At-loop Inv-loop μ-loop → tie.Start Inv-loop μ-loop
+-- The places: the start, the row's y, and once the row is swept; the grid's numbers as words.
+abbrev start : tie.After-struct-told → tie.Start
 start c = c .before .before
 
-abbrev at-test : tie.Then1 Inv-loop μ-loop → tie.At-loop Inv-loop μ-loop
-at-test c = c .before .before
+abbrev with-y : tie.After-run-row → tie.After-sample
+with-y c = c .before .before .before
 
-abbrev run : tie.After-with-pixel Inv-loop μ-loop → tie.After-run-values Inv-loop μ-loop
-run c = c .before
+abbrev swept : tie.After-sign-byte → tie.After-run-row
+swept c = c .before .before
 
-abbrev in-turn : tie.After-run-values Inv-loop μ-loop → tie.Then1 Inv-loop μ-loop
-in-turn c = c .before .before
+told : (c : tie.After-struct-told) → InWords (start c .args .grid)
+told c = in-words (c .struct-told .given)
 
-abbrev past : tie.Else1 Inv-loop μ-loop → tie.At-loop Inv-loop μ-loop
-past c = c .before .before
+sample-requires : tie.Need-sample-requires
+sample-requires c κs =
+    let s = start (c .before) in
+    let f = told (c .before) in
+    let p = s .pre .1 in
+    let y = accepted (s .args .grid) false (p .0) .y-value (s .args .y) (omega (arith, p .1 .0 .ys, p .1 .1 .0 .1)) in
+    axis-asked _ _ _ (f .yorigin) (f .ystep) y
 
-loop-holds : tie.Need-loop-holds Inv-loop μ-loop
-loop-holds c =
-    let k = c .before .pre .1 .1 .0 .xs in
-    record { above = omega arith; under = omega (arith, k); byte = λ n a. no-samples _ _ _ _ }
+run-row-requires : tie.Need-run-row-requires
+run-row-requires c κs =
+    let p = start (c .before .before .before .before) .pre in
+    (sound-runs (p .0), p .1 .1 .1 .1 .1)
 
-sample-at-requires : tie.Need-sample-at-requires Inv-loop μ-loop
-sample-at-requires c κs =
-    let p = start (at-test c) .pre .1 in
-    let k = p .1 .0 in
-    let t = c .if1 .taken in
-    (p .0, record { x-in = omega (arith, k .xs, t); y-in = omega (arith, k .ys, p .1 .1 .1); z-in = omega arith })
+sub-sign-byte : tie.Need-sub-sign-byte
+sub-sign-byte c =
+    let p = start (with-y (c .before) .before .before) .pre .1 in
+    omega (arith, p .1 .0 .xs)
 
-run-values-requires : tie.Need-run-values-requires Inv-loop μ-loop
-run-values-requires c κs = (sound-runs (start (at-test (c .before)) .pre .0), c .sample-at .ensures .1)
+sign-byte-requires : tie.Need-sign-byte-requires
+sign-byte-requires c κs =
+    let p = start (with-y (c .before) .before .before) .pre .1 in
+    omega (arith, p .1 .0 .xs, p .1 .1 .0 .0)
 
-sub-with-pixel : tie.Need-sub-with-pixel Inv-loop μ-loop
-sub-with-pixel c = omega (arith, at-test (in-turn c) .loop .inv .above)
-
-with-pixel-requires : tie.Need-with-pixel-requires Inv-loop μ-loop
-with-pixel-requires c κs =
-    let t = in-turn c in
-    let p = start (at-test t) .pre .1 .1 in
-    omega (arith, t .if1 .taken, p .0 .xs, p .1 .0)
-
-add-x : tie.Need-add-x Inv-loop μ-loop
-add-x c = omega (arith, in-turn (run c) .if1 .taken)
-
-loop-less : tie.Need-loop-less Inv-loop μ-loop
-loop-less c = omega (arith, in-turn (run c) .if1 .taken)
-
-loop-again : tie.Need-loop-again Inv-loop μ-loop
-unfolding material
-loop-again c =
-    let r = run c in
-    let t = in-turn r in
-    let l = at-test t .loop in
-    let i = l .inv in
-    let a = start (at-test t) .args in
-    let v = r .run-values in
-    record {
-      above = omega (arith, i .above);
-      under = omega (arith, t .if1 .taken);
-      byte =
-          λ n s.
-          let g = gridIn (a .grid) false in
-          let tp = tapeIn n (a .code .now) in
-          let e = v .ensures .value n (fit-of s) ∙ ap (valueAt tp) (r .before .sample-at .ensures .0) in
-          let k = sign (v .result) (valueAt tp (sampleAt g (l .x) (a .y) 0)) _ (record { sfits = v .ok }) refl e in
-          let x = a .parent .x in
-          let m = l .x - x in
-          c .with-pixel .ensures (materials m tp g x (a .y)) (materials-length tp g (a .y) m x) (i .byte n s)
-          ∙ ap rowByte (materials-next tp g (a .y) x (l .x) _ (i .above) k);
-    }
-
-returns : tie.Need-returns Inv-loop μ-loop
-returns c = all-so-far (past c .loop .inv) (omega arith)
+returns : tie.Need-returns
+returns c =
+    let r = swept c in
+    let t = with-y r .before .before in
+    let v = with-y r .sample in
+    let f = told t in
+    let p = start t .pre .1 in
+    let ey = axis-answer _ _ _ _ (f .yorigin) (f .ystep) (v .ok) (v .ensures) in (
+      λ n a.
+          c .sign-byte .ensures .byte _
+          (row-signs (p .1 .0) (p .1 .1 .0 .0) (p .0) _ _ _ _ _ _ (p .1 .1 .0 .1) (p .1 .1 .1 .0) ey
+          (toZ-ofZ (f .zorigin)) (r .run-row .ensures) n a),
+      r .run-row .ensures .size ∙ p .1 .1 .1 .1,
+    )
 
 pub row-byte-spec : {M : Type 1} → statement M
 row-byte-spec =
-    tie.close
-    (tie.spec
-    Inv-loop
-    μ-loop
-    loop-holds
-    sample-at-requires
-    run-values-requires
-    sub-with-pixel
-    with-pixel-requires
-    add-x
-    loop-less
-    loop-again
-    returns)
+    tie.close (tie.spec sample-requires run-row-requires sub-sign-byte sign-byte-requires returns)

@@ -15,7 +15,7 @@ use Rattle.flat_tiles.proofs.samples.sample_row.Tie as tie
 
 -- The places: the start, once the byte is made, and that, once it is painted.
 abbrev start : tie.After-row-byte → tie.Start
-start c = c .before .before .before
+start c = c .before .before .before .before
 
 abbrev with-byte : tie.After-paint-row → tie.After-row-byte
 with-byte c = c .before .before .before .before
@@ -25,7 +25,9 @@ painted c = c .before .before .before
 
 row-byte-requires : tie.Need-row-byte-requires
 row-byte-requires c κs =
-    let p = c .before .before .pre in (p .0, (p .1 .0 .fault, (p .1 .1 .0, (p .1 .1 .1 .0, p .1 .1 .1 .2))))
+    let p = c .before .before .before .pre in
+    let q = p .1 .1 .1 in
+    (p .0, (p .1 .0 .fault, (p .1 .1 .0, ((q .0 .0, q .0 .2), (q .1 .0, q .1 .1)))))
 
 cast-paint-row : tie.Need-cast-paint-row
 cast-paint-row c = search needs
@@ -37,10 +39,10 @@ paint-row-requires : tie.Need-paint-row-requires
 paint-row-requires c κs =
     let p = start (c .before .before .before) .pre .1 in
     let k = p .1 .0 in
-    pixels-in _ _ _ (p .0) (p .1 .1 .1) (omega arith) (omega (arith, k .xs)) (omega (arith, k .ys, p .1 .1 .2))
+    pixels-in _ _ _ (p .0) (p .1 .1 .0 .1) (omega arith) (omega (arith, k .xs)) (omega (arith, k .ys, p .1 .1 .0 .2))
 
 sub-result : tie.Need-sub-result
-sub-result c = search needs
+sub-result c = omega (arith, start (with-byte (painted c)) .pre .1 .1 .0 .xs)
 
 cast-result : tie.Need-cast-result
 cast-result c = search needs
@@ -54,7 +56,7 @@ drawn c =
     let u = painted c in
     let b = with-byte u in
     let p = start b .pre .1 .1 in
-    row-folds (p .0) (p .1 .0) _ _ _ (p .1 .2) (b .row-byte .ensures) (u .paint-row .ensures)
+    row-folds (p .0) (p .1 .0 .0) _ _ _ (p .1 .0 .2) (b .row-byte .ensures .0) (u .paint-row .ensures)
 
 mul-result : tie.Need-mul-result
 mul-result c =
@@ -65,7 +67,7 @@ same-length : tie.Need-same-length
 same-length c = search needs
 
 returns : tie.Need-returns
-returns c = drawn c
+returns c = (drawn c, with-byte (painted c) .row-byte .ensures .1)
 
 pub sample-row-spec : {M : Type 1} → statement M
 sample-row-spec =

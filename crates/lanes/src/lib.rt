@@ -1,0 +1,149 @@
+// Eight values side by side, the lanes, and each operation on all of them. Lanes come and go as arrays by value, which
+// the compiler takes several at once; of two references it does not assume that they differ.
+use fixed::value;
+ghost use lib.IntN.{negℤ};
+ghost use Rattle.rules.specs.Values.{sum, difference, product, smaller, larger, quotient, absolute, square, rootOf};
+ghost use Rattle.lanes.specs.Lanes.{All, Shifts, One, OneOfValues, Two};
+
+// The same value in every lane.
+pub fn splat(v: i32) -> [i32; 8]
+    ensures { λ r. ⌜ All v r ⌝ }
+{
+    [v; 8]
+}
+
+// In the two that follow a lane may hold the one number of 32 bits that is no value, so the negative is taken by a
+// difference, which is clamped.
+pub fn negate(a: [i32; 8]) -> [i32; 8]
+    ensures { λ r. ⌜ OneOfValues negℤ a r ⌝ }
+{
+    let mut r = [0i32; 8];
+    let mut k = 0;
+    while k < 8 {
+        r[k] = value::subtract(0, a[k]);
+        k += 1;
+    }
+    r
+}
+
+pub fn absolute(a: [i32; 8]) -> [i32; 8]
+    ensures { λ r. ⌜ OneOfValues absolute a r ⌝ }
+{
+    let mut r = [0i32; 8];
+    let mut k = 0;
+    while k < 8 {
+        r[k] = value::maximum(a[k], value::subtract(0, a[k]));
+        k += 1;
+    }
+    r
+}
+
+pub fn square(a: [i32; 8]) -> [i32; 8]
+    ensures { λ r. ⌜ One square a r ⌝ }
+{
+    let mut r = [0i32; 8];
+    let mut k = 0;
+    while k < 8 {
+        r[k] = value::square(a[k]);
+        k += 1;
+    }
+    r
+}
+
+// The shifts of all roots come first: counting zeros waits for the register that it writes.
+fn shifts(a: [i32; 8]) -> [u32; 8]
+    ensures { λ r. ⌜ Shifts r ⌝ }
+{
+    let mut r = [0u32; 8];
+    let mut k = 0;
+    while k < 8 {
+        r[k] = isqrt::shift_of(a[k]);
+        k += 1;
+    }
+    r
+}
+
+pub fn root(a: [i32; 8]) -> [i32; 8]
+    ensures { λ r. ⌜ One rootOf a r ⌝ }
+{
+    let half = shifts(a);
+    let mut r = [0i32; 8];
+    let mut k = 0;
+    while k < 8 {
+        r[k] = isqrt::root_with(a[k], half[k]);
+        k += 1;
+    }
+    r
+}
+
+pub fn add(a: [i32; 8], b: [i32; 8]) -> [i32; 8]
+    ensures { λ r. ⌜ Two sum a b r ⌝ }
+{
+    let mut r = [0i32; 8];
+    let mut k = 0;
+    while k < 8 {
+        r[k] = value::add(a[k], b[k]);
+        k += 1;
+    }
+    r
+}
+
+pub fn subtract(a: [i32; 8], b: [i32; 8]) -> [i32; 8]
+    ensures { λ r. ⌜ Two difference a b r ⌝ }
+{
+    let mut r = [0i32; 8];
+    let mut k = 0;
+    while k < 8 {
+        r[k] = value::subtract(a[k], b[k]);
+        k += 1;
+    }
+    r
+}
+
+pub fn multiply(a: [i32; 8], b: [i32; 8]) -> [i32; 8]
+    ensures { λ r. ⌜ Two product a b r ⌝ }
+{
+    let mut r = [0i32; 8];
+    let mut k = 0;
+    while k < 8 {
+        r[k] = value::multiply(a[k], b[k]);
+        k += 1;
+    }
+    r
+}
+
+pub fn minimum(a: [i32; 8], b: [i32; 8]) -> [i32; 8]
+    ensures { λ r. ⌜ Two smaller a b r ⌝ }
+{
+    let mut r = [0i32; 8];
+    let mut k = 0;
+    while k < 8 {
+        r[k] = value::minimum(a[k], b[k]);
+        k += 1;
+    }
+    r
+}
+
+pub fn maximum(a: [i32; 8], b: [i32; 8]) -> [i32; 8]
+    ensures { λ r. ⌜ Two larger a b r ⌝ }
+{
+    let mut r = [0i32; 8];
+    let mut k = 0;
+    while k < 8 {
+        r[k] = value::maximum(a[k], b[k]);
+        k += 1;
+    }
+    r
+}
+
+pub fn divide(a: [i32; 8], b: [i32; 8]) -> [i32; 8]
+    ensures { λ r. ⌜ Two quotient a b r ⌝ }
+{
+    let mut r = [0i32; 8];
+    let mut k = 0;
+    while k < 8 {
+        r[k] = value::divide(a[k], b[k]);
+        k += 1;
+    }
+    r
+}
