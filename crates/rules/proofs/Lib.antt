@@ -14,6 +14,7 @@ pub mod Places
 pub mod Accepted
 pub mod Runs
 pub mod Needed
+pub mod Algebra
 pub mod Short
 pub mod ShortAccepted
 pub mod Visit
@@ -27,6 +28,7 @@ pub mod Columns
 pub mod Walk
 pub mod Heights
 pub mod Nested
+pub mod Slopes
 pub mod Tiles
 pub mod Bytes
 pub mod RestatedValues
