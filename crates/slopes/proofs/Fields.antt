@@ -1,5 +1,5 @@
 -- All fields of a value with its slopes at once.
-use mathlib.Core.Path.{_≡_, ap, _∙_}
+use mathlib.Core.Path.{_≡_, _∙_}
 use lib.IntN.{ℤ}
 use lib.Signed.{mag}
 use Prim.Native.Nat.{_<_, _^_}

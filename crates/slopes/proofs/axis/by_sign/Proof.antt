@@ -1,5 +1,5 @@
 -- `axis::by_sign`: by two tests of the sign.
-use mathlib.Core.Path.{ap, _∙_}
+use mathlib.Core.Path.{_∙_}
 use borrow.Author.Needs.{needs}
 use lib.IntN.{negℤ}
 use mir.Syntax.{w32}
@@ -17,7 +17,8 @@ returns c =
     let s = c .before .before in
     let r = c .negate in
     back-one w32 negℤ (r .result) (r .ok) (r .ensures) (toZ-ofZ (s .fits .p))
-    ∙ sign-below (s .args .a) (s .args .p) (rw (toZ-ofZ {w = w32} {z = s .args .a} (s .fits .a)) at (c .before .if1 .taken))
+    ∙ sign-below (s .args .a) (s .args .p)
+    (rw (toZ-ofZ {w = w32} {z = s .args .a} (s .fits .a)) at (c .before .if1 .taken))
 
 returns-2 : tie.Need-returns-2
 returns-2 c =

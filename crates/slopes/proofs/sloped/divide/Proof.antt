@@ -60,4 +60,11 @@ returns c =
     (back-four slope (z .result) (z .ok) (z .ensures) (toZ-ofZ (f .z)) (toZ-ofZ (g .z)) n e)
 
 pub divide-spec : {M : Type 1} → statement M
-divide-spec = tie.close (tie.spec divide-requires of-quotient-requires of-quotient-requires-2 of-quotient-requires-3 returns)
+divide-spec =
+    tie.close
+    (tie.spec
+    divide-requires
+    of-quotient-requires
+    of-quotient-requires-2
+    of-quotient-requires-3
+    returns)

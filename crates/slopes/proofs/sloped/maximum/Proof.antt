@@ -3,7 +3,6 @@ use mathlib.Core.Path.{ap, sym}
 use mir.Syntax.{w32}
 use Rattle.rules.specs.Values.{pick}
 use Rattle.fixed.proofs.Words.{tested}
-use Rattle.slopes.specs.declared.sloped.Sloped.{Sloped}
 use Rattle.slopes.proofs.Fields.{fit}
 use Rattle.slopes.proofs.sloped.maximum.Statement.{statement}
 use Rattle.slopes.proofs.sloped.maximum.Tie as tie

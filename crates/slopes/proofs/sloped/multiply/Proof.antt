@@ -59,4 +59,11 @@ returns c =
     (back-four slope (z .result) (z .ok) (z .ensures) (toZ-ofZ (f .z)) (toZ-ofZ (g .z)) m n)
 
 pub multiply-spec : {M : Type 1} → statement M
-multiply-spec = tie.close (tie.spec multiply-requires of-product-requires of-product-requires-2 of-product-requires-3 returns)
+multiply-spec =
+    tie.close
+    (tie.spec
+    multiply-requires
+    of-product-requires
+    of-product-requires-2
+    of-product-requires-3
+    returns)

@@ -53,4 +53,11 @@ returns c =
     (back-two w32 difference (z .result) (z .ok) (z .ensures) (toZ-ofZ (f .z)) (toZ-ofZ (g .z)))
 
 pub subtract-spec : {M : Type 1} → statement M
-subtract-spec = tie.close (tie.spec subtract-requires subtract-requires-2 subtract-requires-3 subtract-requires-4 returns)
+subtract-spec =
+    tie.close
+    (tie.spec
+    subtract-requires
+    subtract-requires-2
+    subtract-requires-3
+    subtract-requires-4
+    returns)
