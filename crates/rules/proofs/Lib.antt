@@ -29,6 +29,7 @@ pub mod Walk
 pub mod Heights
 pub mod Nested
 pub mod Slopes
+pub mod SlopePixels
 pub mod Tiles
 pub mod Bytes
 pub mod RestatedValues
