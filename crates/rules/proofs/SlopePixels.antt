@@ -1,15 +1,21 @@
 -- The slopes of a picture, pixel by pixel: three numbers for each, found at their place in the list.
 use mathlib.Core.Path.{_≡_, refl, sym, ap, ap₂, _∙_}
+use mathlib.Core.Bool.{Bool, true, false}
 use mathlib.Core.List.{List, [], _∷_, _++_}
 use lib.IntN.{ℤ, pos}
 use Prim.Native.Nat.{ℕ, zero, suc, _+_, _*_, _<_, _≤_}
 use native.Mathlib.Nat.{mul-le-mul-right}
 use native.Mathlib.Omega.{arith}
-use lib.ListN.{length, getD, take, drop, take-append-drop, drop-of-length-le}
-use lib.Seq.{drop-cons, drop-drop}
+use lib.Dec.{eqb}
+use lib.ListN.{length, getD, set, take, drop, replicate, take-append-drop, drop-of-length-le, length-set}
+use lib.ListN.{length-replicate}
+use lib.Seq.{drop-cons, drop-drop, getD-set-same, getD-set-other}
+use borrow.Author.Tests.{eqb-true, eqb-false}
 use Rattle.rules.specs.Tapes.{Tape}
-use Rattle.rules.specs.Drawings.{Grid}
-use Rattle.rules.specs.Slopes.{pixelSlopes, rowSlopes, rowsSlopes, slopesOf}
+use Rattle.rules.specs.Drawings.{Grid, sampleAt}
+use Rattle.rules.specs.Slopes.{Slopes, slopesAt, listed, pixelSlopes, rowSlopes, rowsSlopes, slopesOf}
+use Rattle.rules.proofs.Algebra.{of-replicate}
+use Rattle.rules.proofs.Heights.{same-pixel}
 
 -- The three numbers of the pixel p.
 abbrev pub threeAt : List ℤ → ℕ → List ℤ
@@ -93,3 +99,96 @@ module _ (t : Tape) (g : Grid) (h : List ℕ) (b : List ℤ) (s : ShowSlopes t g
     where
       none : 0 ≡ 3 * (0 * g .width)
       none = omega arith
+
+-- All slopes are 0 where all heights are.
+three : {x y z x′ y′ z′ : ℤ} → x ≡ x′ → y ≡ y′ → z ≡ z′ → x ∷ (y ∷ (z ∷ [])) ≡ x′ ∷ (y′ ∷ (z′ ∷ []))
+three {x} {y} {z} {x′} {y′} {z′} e f h =
+    ap₂ (λ (a b : ℤ). a ∷ (b ∷ (z ∷ []))) e f ∙ ap (λ (c : ℤ). x′ ∷ (y′ ∷ (c ∷ []))) h
+
+pub shown-blank : (t : Tape) (g : Grid) (n : ℕ)
+    → ShowSlopes t g (replicate n 0) (replicate (3 * (g .height * g .width)) (pos 0))
+shown-blank t g n =
+    record {
+      size = length-replicate (3 * (g .height * g .width)) (pos 0);
+      pixel = λ i j _ _. three (none _) (none _) (none _)
+          ∙ ap (λ (k : ℕ). pixelSlopes t g i j k) (sym (of-replicate (λ k. k ≡ 0) 0 n refl (j * g .width + i)));
+    }
+  where
+    none : (m : ℕ) → getD (replicate (3 * (g .height * g .width)) (pos 0)) m (pos 0) ≡ pos 0
+    none m = of-replicate (λ z. z ≡ pos 0) (pos 0) (3 * (g .height * g .width)) refl m
+
+-- A pixel that gets the height k + 1 gets the slopes of its sample k.
+abbrev putOne : List ℤ → ℕ → Slopes → List ℤ
+putOne b p n = set b (3 * p) (n .x)
+
+abbrev putTwo : List ℤ → ℕ → Slopes → List ℤ
+putTwo b p n = set (putOne b p n) (3 * p + 1) (n .y)
+
+abbrev pub putThree : List ℤ → ℕ → Slopes → List ℤ
+putThree b p n = set (set (set b (3 * p) (n .x)) (3 * p + 1) (n .y)) (3 * p + 2) (n .z)
+
+put-other : (b : List ℤ) (p : ℕ) (n : Slopes) (m : ℕ) → (m ≡ 3 * p → ⊥) → (m ≡ 3 * p + 1 → ⊥) → (m ≡ 3 * p + 2 → ⊥)
+    → getD (putThree b p n) m (pos 0) ≡ getD b m (pos 0)
+put-other b p n m d e f =
+    getD-set-other (putTwo b p n) (3 * p + 2) m (n .z) (pos 0) f
+    ∙ getD-set-other (putOne b p n) (3 * p + 1) m (n .y) (pos 0) e
+    ∙ getD-set-other b (3 * p) m (n .x) (pos 0) d
+
+three-other : (b : List ℤ) (p q : ℕ) (n : Slopes) → (p ≡ q → ⊥) → threeAt (putThree b p n) q ≡ threeAt b q
+three-other b p q n d =
+    three
+    (put-other b p n (3 * q) (λ e. d (omega arith)) (λ e. omega arith) (λ e. omega arith))
+    (put-other b p n (3 * q + 1) (λ e. omega arith) (λ e. d (omega arith)) (λ e. omega arith))
+    (put-other b p n (3 * q + 2) (λ e. omega arith) (λ e. omega arith) (λ e. d (omega arith)))
+
+three-same : (b : List ℤ) (p : ℕ) (n : Slopes) → 3 * p + 2 < length b → threeAt (putThree b p n) p ≡ listed n
+three-same b p n h =
+    three
+    (getD-set-other two (3 * p + 2) (3 * p) (n .z) (pos 0) (λ e. omega arith)
+    ∙ getD-set-other one (3 * p + 1) (3 * p) (n .y) (pos 0) (λ e. omega arith)
+    ∙ getD-set-same b (3 * p) (n .x) (pos 0) (omega arith))
+    (getD-set-other two (3 * p + 2) (3 * p + 1) (n .z) (pos 0) (λ e. omega arith)
+    ∙ getD-set-same one (3 * p + 1) (n .y) (pos 0) (omega (arith, length-set b (3 * p) (n .x))))
+    (getD-set-same two (3 * p + 2) (n .z) (pos 0)
+    (omega (arith, length-set one (3 * p + 1) (n .y), length-set b (3 * p) (n .x))))
+  where
+    one : List ℤ
+    one = putOne b p n
+
+    two : List ℤ
+    two = putTwo b p n
+
+pub shown-put : (t : Tape) (g : Grid) (h : List ℕ) (b : List ℤ) → ShowSlopes t g h b → length h ≡ g .height * g .width
+    → (i j k : ℕ) → i < g .width → j < g .height
+    → ShowSlopes t g (set h (j * g .width + i) (suc k)) (putThree b (j * g .width + i) (slopesAt t (sampleAt g i j k)))
+shown-put t g h b s l i j k x y =
+    record {
+      size = length-set (putTwo b p n) (3 * p + 2) (n .z)
+          ∙ length-set (putOne b p n) (3 * p + 1) (n .y) ∙ length-set b (3 * p) (n .x) ∙ s .size;
+      pixel = λ i′ j′ x′ y′. at i′ j′ x′ y′ (eqb p (j′ * g .width + i′)) refl;
+    }
+  where
+    p : ℕ
+    p = j * g .width + i
+
+    n : Slopes
+    n = slopesAt t (sampleAt g i j k)
+
+    in-heights : p < length h
+    in-heights = omega (arith, in-list t g h b s i j x y, s .size)
+
+    at : (i′ j′ : ℕ) → i′ < g .width → j′ < g .height → (u : Bool) → eqb p (j′ * g .width + i′) ≡ u
+        → threeAt (putThree b p n) (j′ * g .width + i′)
+        ≡ pixelSlopes t g i′ j′ (getD (set h p (suc k)) (j′ * g .width + i′) 0)
+    at i′ j′ x′ y′ true q =
+        let e = eqb-true p (j′ * g .width + i′) q in
+        let m = same-pixel (g .width) i j i′ j′ x x′ e in
+        rw (← e, ← m .0, ← m .1)
+        (three-same b p n (in-list t g h b s i j x y)
+        ∙ ap (λ (z : ℕ). pixelSlopes t g i j z) (sym (getD-set-same h p (suc k) 0 in-heights)))
+    at i′ j′ x′ y′ false q =
+        let d = eqb-false p (j′ * g .width + i′) q in
+        three-other b p (j′ * g .width + i′) n d
+        ∙ s .pixel i′ j′ x′ y′
+        ∙ ap (λ (z : ℕ). pixelSlopes t g i′ j′ z)
+        (sym (getD-set-other h p (j′ * g .width + i′) (suc k) 0 (λ e. d (sym e))))
