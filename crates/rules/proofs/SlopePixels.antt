@@ -82,7 +82,8 @@ module _ (t : Tape) (g : Grid) (h : List ℕ) (b : List ℤ) (s : ShowSlopes t g
   rows-shown (suc n) j e =
       sym (take-append-drop (3 * g .width) (drop (3 * (j * g .width)) b))
       ∙ ap₂ (λ (x y : List ℤ). x ++ y)
-      (ap (λ (p : ℕ). take (3 * g .width) (drop (3 * p) b)) first ∙ row-shown (g .width) 0 j (omega arith) (omega arith))
+      (ap (λ (p : ℕ). take (3 * g .width) (drop (3 * p) b)) first
+      ∙ row-shown (g .width) 0 j (omega arith) (omega arith))
       (drop-drop (3 * g .width) (3 * (j * g .width)) b
       ∙ ap (λ (m : ℕ). drop m b) next
       ∙ rows-shown n (suc j) (omega arith))
