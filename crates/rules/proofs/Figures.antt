@@ -7,7 +7,7 @@ use lib.IntN.{ℤ, pos, negℤ}
 use Prim.Native.Nat.{ℕ}
 use lib.Ieee.{binary64, ofBits, ofInt, div}
 use Rattle.rules.specs.Values.{smaller, larger, sum, difference, product, square, rootFrom, rootOf, Clause, Range}
-use Rattle.rules.specs.Values.{quotient, quotientR, Sample, binaryValue, valueOf}
+use Rattle.rules.specs.Values.{quotient, quotientR, Sample, unaryValue, binaryValue, valueOf}
 use Rattle.rules.specs.Values.{range, Box, holdsZero, absoluteR, squareR, rootR, productR, sumR, differenceR}
 use Rattle.rules.specs.Values.{negR, smallerR, largerR, unaryRange, binaryRange, rangeOf, sideBelow, sideAbove}
 use Rattle.rules.specs.Values.{multipliedR, choiceOf}
@@ -17,6 +17,8 @@ use Rattle.rules.specs.Tapes.{badRead, clauseFault}
 use Rattle.rules.specs.Marks.{asMarked, keptBy, newMark, refined, wholeMarks, keptTape, marksOver}
 use Rattle.rules.specs.Drawings.{Grid, at, sampleAt, gridFault}
 use Rattle.rules.specs.Probes.{over, under, roundedDown, coordinateOk, pointFault, storedFloat}
+use Rattle.rules.specs.Slopes.{unarySlope, binarySlope, slopeOf, slopedOf, slopedFrom, slopedAt, Slopes, slopesAt}
+use Rattle.rules.specs.Slopes.{listed, rowSlopes, rowsSlopes, slopesOf}
 
 -- A row of numbers: a range is its two ends, a tape is its list.
 pub record Row : Type 0 where
@@ -267,14 +269,118 @@ probes =
     ∷ (answered (pos 2147483647) (pos 2147483647) 65536
     ∷ []))))))))))))))))))))
 
+-- Request T-07. A row of slopes: x, y, z.
+abbrev pub slopes : Slopes → ℤ → ℤ → ℤ → Row
+slopes n x y z = record { given = listed n; said = x ∷ (y ∷ (z ∷ [])) }
+
+abbrev pub sampled : ℤ → ℤ → ℤ → Sample
+sampled a b c = record { x = a; y = b; z = c }
+
+-- Root of squares less k, the squares by square, and by multiply of one slot with itself.
+abbrev pub squareIn : ℕ → Clause
+squareIn j = clause 7 j j 0 (pos 0)
+
+abbrev pub multiplyIn : ℕ → Clause
+multiplyIn j = clause 11 j j j (pos 0)
+
+abbrev pub ball : (ℕ → Clause) → ℕ → Tape
+ball squared k =
+    record {
+      slots = 2;
+      clauses = clause 1 0 0 0 (pos 0)
+          ∷ (squared 0
+          ∷ (clause 2 1 0 0 (pos 0)
+          ∷ (squared 1
+          ∷ (clause 9 0 0 1 (pos 0)
+          ∷ (clause 3 1 0 0 (pos 0)
+          ∷ (squared 1
+          ∷ (clause 9 0 0 1 (pos 0)
+          ∷ (clause 8 0 0 0 (pos 0) ∷ (clause 0 1 0 0 (pos k) ∷ (clause 10 0 0 1 (pos 0) ∷ []))))))))));
+    }
+
+-- Two axes by an opcode, and one axis by an opcode.
+abbrev pub ofTwo : ℕ → ℕ → ℕ → Tape
+ofTwo o l r =
+    record {
+      slots = 2;
+      clauses = clause l 0 0 0 (pos 0) ∷ (clause r 1 0 0 (pos 0) ∷ (clause o 0 0 1 (pos 0) ∷ []));
+    }
+
+abbrev pub ofOne : ℕ → ℕ → Tape
+ofOne o l = record { slots = 1; clauses = clause l 0 0 0 (pos 0) ∷ (clause o 0 0 0 (pos 0) ∷ []) }
+
+abbrev pub balls : List Row
+balls =
+    number (slopedAt 1 (ball squareIn 327680) (sampled (pos 98304) (pos 163840) (pos 229376)) .value) (minus 29150)
+    ∷ (slopes (slopesAt (ball squareIn 327680) (sampled (pos 98304) (pos 163840) (pos 229376)))
+    (pos 21580) (pos 35967) (pos 50354)
+    ∷ (slopes (slopesAt (ball multiplyIn 327680) (sampled (pos 98304) (pos 163840) (pos 229376)))
+    (pos 21580) (pos 35967) (pos 50354)
+    ∷ (slopes (slopesAt (ball squareIn 327680) (sampled (minus 65536) (pos 131072) (minus 196608)))
+    (minus 17516) (pos 35030) (minus 52546)
+    ∷ (slopes (slopesAt (ball multiplyIn 327680) (sampled (minus 65536) (pos 131072) (minus 196608)))
+    (minus 17516) (pos 35030) (minus 52546)
+    ∷ (slopes (slopesAt (ball squareIn 327680) nowhere) (pos 0) (pos 0) (pos 0)
+    ∷ [])))))
+
+-- Quotients; sides that win, and ties; signs; what is passed on; a square's half is rounded before it is doubled.
+abbrev pub steep : List Row
+steep =
+    slopes (slopesAt (ofTwo 14 1 3) (sampled (pos 196608) (pos 0) (pos 131072))) (pos 32768) (pos 0) (minus 49152)
+    ∷ (slopes (slopesAt (ofTwo 14 1 3) (sampled (pos 196608) (pos 0) (pos 0))) (pos 0) (pos 0) (pos 0)
+    ∷ (slopes (slopesAt (ofTwo 12 1 2) (sampled (pos 7) (pos 7) (pos 0))) (pos 65536) (pos 0) (pos 0)
+    ∷ (slopes (slopesAt (ofTwo 13 1 2) (sampled (pos 7) (pos 7) (pos 0))) (pos 65536) (pos 0) (pos 0)
+    ∷ (slopes (slopesAt (ofTwo 12 1 2) (sampled (pos 8) (pos 7) (pos 0))) (pos 0) (pos 65536) (pos 0)
+    ∷ (slopes (slopesAt (ofTwo 13 1 2) (sampled (pos 7) (pos 8) (pos 0))) (pos 0) (pos 65536) (pos 0)
+    ∷ (slopes (slopesAt (ofTwo 10 2 3) nowhere) (pos 0) (pos 65536) (minus 65536)
+    ∷ (slopes (slopesAt (ofOne 6 1) (sampled (minus 3) (pos 0) (pos 0))) (minus 65536) (pos 0) (pos 0)
+    ∷ (slopes (slopesAt (ofOne 6 1) nowhere) (pos 0) (pos 0) (pos 0)
+    ∷ (slopes (slopesAt (ofOne 5 3) nowhere) (pos 0) (pos 0) (minus 65536)
+    ∷ (slopes (slopesAt (ofOne 4 2) nowhere) (pos 0) (pos 65536) (pos 0)
+    ∷ (number (slopeOf 1 7 (pos 98304) (pos 0) (pos 1) (pos 0) (pos 0)) (pos 2)
+    ∷ [])))))))))))
+
+-- A ball of radius 2 over 4 by 2 pixels, by its heights; the last of them put to 0.
+abbrev pub overBall : Grid
+overBall =
+    record {
+      width = 4;
+      height = 2;
+      depth = 4;
+      originX = minus 131072;
+      originY = minus 65536;
+      originZ = minus 131072;
+      stepX = pos 65536;
+      stepY = pos 65536;
+      stepZ = pos 65536;
+    }
+
+abbrev pub shaded : List Row
+shaded =
+    record {
+      given = slopesOf (ball squareIn 131072) overBall
+          (3 ∷ (4 ∷ (4 ∷ (3 ∷ (3 ∷ (4 ∷ (4 ∷ (0 ∷ []))))))));
+      said = minus 59280 ∷ (minus 19760 ∷ (pos 19759
+          ∷ (minus 19760 ∷ (minus 19760 ∷ (pos 59279
+          ∷ (pos 19759 ∷ (minus 19760 ∷ (pos 59279
+          ∷ (pos 59279 ∷ (minus 19760 ∷ (pos 19759
+          ∷ (minus 59280 ∷ (pos 19759 ∷ (pos 19759
+          ∷ (minus 19760 ∷ (pos 19759 ∷ (pos 59279
+          ∷ (pos 19759 ∷ (pos 19759 ∷ (pos 59279
+          ∷ (pos 0 ∷ (pos 0 ∷ (pos 0 ∷ [])))))))))))))))))))))));
+    }
+    ∷ []
+
 abbrev pub rows : List Row
-rows = starred ++ worded ++ oneSlot ++ middles ++ quotients ++ dividing ++ keptForms ++ probes
+rows =
+    starred ++ worded ++ oneSlot ++ middles ++ quotients ++ dividing ++ keptForms ++ probes ++ balls ++ steep ++ shaded
 
 pub figures : map (λ r. r .given) rows ≡ map (λ r. r .said) rows
 unfolding smaller larger sum difference product square rootFrom rootOf quotient quotientR holdsZero absoluteR squareR
     rootR productR sumR differenceR negR smallerR largerR unaryRange multipliedR binaryRange rangeOf rangeFrom rangeOver
     sideBelow sideAbove choiceOf choicesFrom reads isIn without onClause shortFrom lastOut shortened listOf sampleAt
-    gridFault binaryValue valueOf badSlot badUnused badConstant badRead clauseFault
+    gridFault unaryValue binaryValue valueOf badSlot badUnused badConstant badRead clauseFault
     asMarked keptBy newMark refined marksOver
     ofBits coordinateOk pointFault ofInt div storedFloat
+    unarySlope binarySlope slopeOf slopedOf slopedFrom slopedAt slopesAt rowSlopes rowsSlopes slopesOf
 figures = refl

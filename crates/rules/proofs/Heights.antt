@@ -29,7 +29,7 @@ pub record Visited (t : Tape) (g : Grid) (r : Region) (h h′ : List ℕ) : Type
   pub outside : (p : ℕ) → p < length h → (Pixel g r p → ⊥) → getD h′ p 0 ≡ getD h p 0
 
 -- A place is one pixel's.
-same-pixel : (w x y x′ y′ : ℕ) → x < w → x′ < w → y * w + x ≡ y′ * w + x′ → (x ≡ x′) × (y ≡ y′)
+pub same-pixel : (w x y x′ y′ : ℕ) → x < w → x′ < w → y * w + x ≡ y′ * w + x′ → (x ≡ x′) × (y ≡ y′)
 same-pixel w x y x′ y′ h k e = (
   sym (digits-mod y h) ∙ ap (λ p. p % w) e ∙ digits-mod y′ k,
   sym (digits-div y h) ∙ ap (λ p. p / w) e ∙ digits-div y′ k,

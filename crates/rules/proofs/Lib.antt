@@ -16,6 +16,7 @@ pub mod Accepted
 pub mod Runs
 pub mod Lent
 pub mod Needed
+pub mod Algebra
 pub mod Short
 pub mod ShortAccepted
 pub mod Marks
@@ -30,6 +31,8 @@ pub mod Columns
 pub mod Walk
 pub mod Heights
 pub mod Nested
+pub mod Slopes
+pub mod SlopePixels
 pub mod Tiles
 pub mod Bytes
 pub mod Editions

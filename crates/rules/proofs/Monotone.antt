@@ -9,7 +9,7 @@ use Rattle.rules.specs.Values.{pick, IsValue, below, smaller, larger, cl
 use Rattle.rules.specs.Values.{square, absolute}
 use Rattle.rules.specs.Values.{Range, ofEnds}
 use Rattle.rules.proofs.Tests.{of-pick}
-use Rattle.rules.proofs.Order.{up, down, AtMost, Holds, at-most-refl, at-most-trans, at-most-antisym}
+use Rattle.rules.proofs.Order.{up, down, AtMost, Holds, at-most-refl, at-most-trans}
 use Rattle.rules.proofs.Order.{below-at-most, not-below, sum-rises, neg-falls, neg-up, neg-down}
 
 -- Clamping and rounding down.
@@ -86,22 +86,6 @@ smaller-rises {a} {b} {c} {d} h k =
 pub larger-rises : {a b c d : ℤ} → AtMost a c → AtMost b d → AtMost (larger a b) (larger c d)
 larger-rises {a} {b} {c} {d} h k =
     of-larger (λ z. AtMost z (larger c d)) a b (at-most-trans h (larger-left c d)) (at-most-trans k (larger-right c d))
-
-pub smaller-is-left : (a b : ℤ) → AtMost a b → smaller a b ≡ a
-smaller-is-left a b h =
-    at-most-antisym (smaller a b) a (smaller-left a b) (of-smaller (λ z. AtMost a z) a b (at-most-refl a) h)
-
-pub smaller-is-right : (a b : ℤ) → AtMost b a → smaller a b ≡ b
-smaller-is-right a b h =
-    at-most-antisym (smaller a b) b (smaller-right a b) (of-smaller (λ z. AtMost b z) a b h (at-most-refl b))
-
-pub larger-is-left : (a b : ℤ) → AtMost b a → larger a b ≡ a
-larger-is-left a b h =
-    at-most-antisym (larger a b) a (of-larger (λ z. AtMost z a) a b (at-most-refl a) h) (larger-left a b)
-
-pub larger-is-right : (a b : ℤ) → AtMost a b → larger a b ≡ b
-larger-is-right a b h =
-    at-most-antisym (larger a b) b (of-larger (λ z. AtMost z b) a b h (at-most-refl b)) (larger-right a b)
 
 -- Sums and differences.
 pub sum-value : (a b : ℤ) → IsValue (sum a b)

@@ -1,0 +1,5 @@
+-- What the proofs of the functions share.
+pub mod OneAxis
+pub mod Fields
+pub mod Arms
+pub mod SlopeRuns
