@@ -8,3 +8,5 @@ pub mod Pictures
 pub mod Program
 pub mod Demands
 pub mod Trees
+pub mod Formulas
+pub mod FormulaReader
