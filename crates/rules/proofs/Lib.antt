@@ -37,3 +37,4 @@ pub mod Demands
 pub mod Example
 pub mod Program
 pub mod FormulaTakes
+pub mod FormulaParts
