@@ -23,7 +23,7 @@ use Rattle.rules.specs.FormulaReader.{decimals, endTree, Mode, want, spe
 use Rattle.rules.specs.FormulaReader.{Spelling, a-, ab-, s-, sq-, r-, ro-, roo-, m-, mi-, ma-, Move, no, go, Row}
 use Rattle.rules.specs.FormulaReader.{row, choose, push, openerOf, ofOne, ofTwo, Function, moveIn, move}
 use Rattle.rules.specs.FormulaReader.{wantRows, spellRows, namedRows, closeRow, closeRows, joinRows, digitMove}
-use Rattle.rules.specs.FormulaReader.{pointMove, minusMove, whenFits, start}
+use Rattle.rules.specs.FormulaReader.{pointMove, minusMove, whenFits, Answer, done, breaks, endIn}
 use Rattle.rules.proofs.Tests.{and-left, and-right}
 use Rattle.rules.proofs.FormulaTakes.{ending, ending-tree, ended, numberEnd}
 
@@ -618,3 +618,27 @@ finish d =
     let f = finish-reading (d .reading) (d .inner) in
     let (t, q, e) = finish-stack (d .stack) (f .sum) in
     (t, f .rest q, e ∙ ap (writeStack (d .stack)) (f .bytes q))
+
+-- Where the reader ends with a tree, the parts are an allowed text of that tree.
+pub data EndsAs (d : Partial) (n : ℕ) : Answer → Type 0 where
+  broken : EndsAs d n (breaks n)
+  whole-text : {t : Tree} (x : Text) → bytesOf x ≡ write d [] → treeOf x ≡ t → EndsAs d n (done t)
+
+ends-in : (m : Reading) (l : Part) (k : List Open) (n : ℕ)
+    → EndsAs (partial m l k) n (endIn (modeOf m) (levelOf l) (framesOf k) n)
+unfolding bytesOf treeOf
+ends-in (wants m) l k n = broken
+ends-in (spells m p) l k n = broken
+ends-in (names m f h) l k n = broken
+ends-in (points m w) l k n = broken
+ends-in (ends i j) l [] n =
+    whole-text (record { sum = itemSum l i; after = j }) (item-bytes l i (spaces j [])) (item-sum-tree l i j)
+ends-in (ends i j) l (o ∷ k) n = broken
+
+pub ends-as : (d : Partial) (n : ℕ)
+    → EndsAs d n (endIn (stateOf d .mode) (stateOf d .inner) (stateOf d .stack) n)
+ends-as d n = ends-in (d .reading) (d .inner) (d .stack) n
+
+-- No parts yet.
+abbrev pub startParts : Partial
+startParts = partial (wants 0) freshPart []

@@ -38,3 +38,4 @@ pub mod Example
 pub mod Program
 pub mod FormulaTakes
 pub mod FormulaParts
+pub mod Formulas
