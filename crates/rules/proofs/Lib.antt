@@ -38,4 +38,5 @@ pub mod Example
 pub mod Program
 pub mod FormulaTakes
 pub mod FormulaParts
+pub mod FormulaNesting
 pub mod Formulas
