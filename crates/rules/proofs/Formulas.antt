@@ -6,17 +6,20 @@ use mathlib.Core.Logic.{_⊎_, inl, inr, _↔_}
 use Prim.Native.Nat.{ℕ, zero, suc, _+_, _-_, _≤_, _<_}
 use native.Mathlib.Omega.{arith}
 use lib.Dec.{eqb, leb}
+use lib.IntN.{pos}
 use lib.ListN.{length, getD, take, drop, length-append, take-append-drop}
-use lib.Seq.{append-snoc, take-at, getD-at, take-length}
+use lib.Seq.{append-snoc, take-at, getD-at, getD-take, take-length, take-take, split-at, length-take-le}
 use borrow.Author.Tests.{eqb-true, leb-true, leb-false}
-use Rattle.rules.specs.Trees.{Tree}
+use Rattle.rules.specs.Trees.{Tree, number}
 use Rattle.rules.specs.Formulas.{nestLimit, Text, bytesOf, treeOf, nestOf, spaces, Allowed, CanBegin, openAfter}
-use Rattle.rules.specs.Formulas.{insideFrom, inside, Shallow, BreaksAt, DeepAt}
+use Rattle.rules.specs.Formulas.{insideFrom, inside, ReadsAs, Shallow, BreaksAt, DeepAt}
 use Rattle.rules.specs.FormulaReader.{sumTo, endTree, State, start, Move, no, go, move, Answer, done, breaks, deep}
+use Rattle.rules.specs.FormulaReader.{Level, Mode, want, spelling, named, point, after}
 use Rattle.rules.specs.FormulaReader.{endIn, tooDeep, onward, answer, reader}
 use Rattle.rules.proofs.Tests.{and-left, and-right}
 use Rattle.rules.proofs.FormulaTakes.{moved, reach, ended, Through, goes-through}
 use Rattle.rules.proofs.FormulaParts.{Partial, stateOf, write, Goes, Good, goes, good-move, finish, ends-as}
+use Rattle.rules.proofs.FormulaNesting.{nested-shallow, shallow-nested}
 use Rattle.rules.proofs.FormulaParts.{EndsAs, broken, whole-text, startParts}
 
 -- Where bytes lead, a part after the other.
@@ -118,14 +121,8 @@ shallow-step p b h f = record { each = λ q r e. one-of q (snoc-split p b q 40 r
     one-of q (inr (u, e)) = h .each q u e
 
 -- What each answer says of the text.
-pub record Accepts (s : List ℕ) (t : Tree) : Type 0 where
-  pub text : Text
-  pub writes : bytesOf text ≡ s
-  pub tree : treeOf text ≡ t
-  pub shallow : Shallow s
-
 pub data Answered (text : List ℕ) : Answer → Type 0 where
-  accepted : {t : Tree} → Accepts text t → Answered text (done t)
+  accepted : {t : Tree} → ReadsAs text t → Answered text (done t)
   broke : {n : ℕ} → BreaksAt text n → Answered text (breaks n)
   deeper : {n : ℕ} → DeepAt text n → Answered text (deep n)
 
@@ -163,7 +160,8 @@ at-end p s n h sh e =
           shallow = rw all sh;
         })
     by q (whole-text x w t) =
-        accepted (record { text = x; writes = w ∙ h .writes [] ∙ append-nil p; tree = t; shallow = sh })
+        let e = w ∙ h .writes [] ∙ append-nil p in
+        accepted (record { text = x; writes = e; tree = t; nests = shallow-nested x (subst Shallow (sym e) sh) })
 
 -- At a byte.
 at-byte : (p : List ℕ) (s : State) (n b : ℕ) (r : List ℕ) → Read p s → Shallow p → length p ≡ n
@@ -212,3 +210,130 @@ answered (b ∷ r) p s n h sh e =
 pub reader-answers : (text : List ℕ) → Answered text (reader text)
 unfolding reader
 reader-answers text = answered text [] start 0 read-start shallow-start refl
+
+-- Beginnings of beginnings, and of a whole text.
+begins-less : (s : List ℕ) (m n : ℕ) → m ≤ n → CanBegin (take n s) → CanBegin (take m s)
+begins-less s m n h c =
+    let q = take n s in
+    record {
+      text = c .text;
+      rest = drop m q ++ c .rest;
+      writes = c .writes
+          ∙ ap (λ (x : List ℕ). x ++ c .rest) (sym (take-append-drop m q))
+          ∙ append-assoc (take m q) (drop m q) (c .rest)
+          ∙ ap (λ (x : List ℕ). x ++ (drop m q ++ c .rest)) (take-take m n s h);
+    }
+
+begins-whole : (s : List ℕ) (m : ℕ) → Allowed s → CanBegin (take m s)
+begins-whole s m a =
+    record { text = a .text; rest = drop m s; writes = a .writes ∙ sym (take-append-drop m s) }
+
+-- A bracket of a shallow beginning.
+shallow-at : (s : List ℕ) (m n : ℕ) → m < n → n ≤ length s → getD s m 0 ≡ 40 → Shallow (take n s)
+    → inside (take m s) < nestLimit
+shallow-at s m n h g e f =
+    f .each (take m s) (drop (suc m) (take n s))
+    (split-at (take n s) m 0 (omega (arith, length-take-le n s g))
+    ∙ ap (λ (x : List ℕ). x ++ getD (take n s) m 0 ∷ drop (suc m) (take n s)) (take-take m n s (omega arith))
+    ∙ ap (λ (x : ℕ). take m s ++ x ∷ drop (suc m) (take n s)) (getD-take n s m 0 h ∙ e))
+
+-- Texts have one tree.
+pub one-tree : (x y : Text) → bytesOf x ≡ bytesOf y → treeOf x ≡ treeOf y
+one-tree x y e =
+    let f = goes-through x in
+    let g = goes-through y in
+    let same = same-state (sym (f .goes) ∙ ap (reach (go start)) e ∙ g .goes) in
+    sym (f .tree) ∙ ap sumAt same ∙ g .tree
+  where
+    treeAt : Mode → Level → Tree
+    treeAt want l = number (pos 0)
+    treeAt (spelling p) l = number (pos 0)
+    treeAt (named p) l = number (pos 0)
+    treeAt (point v) l = number (pos 0)
+    treeAt (after w) l = sumTo l (endTree w)
+
+    sumAt : State → Tree
+    sumAt s = treeAt (s .mode) (s .inner)
+
+-- The answers exclude each other.
+equal : (n m : ℕ) → (n < m → ⊥) → (m < n → ⊥) → n ≡ m
+equal n m f g = omega arith
+
+either : (n m : ℕ) → (n ≤ m → ⊥) → (m < n → ⊥) → ⊥
+either n m f g = omega arith
+
+read-read : (s : List ℕ) (t u : Tree) → ReadsAs s t → ReadsAs s u → t ≡ u
+read-read s t u a b =
+    sym (a .tree) ∙ one-tree (a .text) (b .text) (a .writes ∙ sym (b .writes)) ∙ b .tree
+
+allowed-as : (s : List ℕ) (t : Tree) → ReadsAs s t → Allowed s
+allowed-as s t a = record { text = a .text; writes = a .writes }
+
+read-break : (s : List ℕ) (t : Tree) (n : ℕ) → ReadsAs s t → BreaksAt s n → ⊥
+read-break s t n a b =
+    either (length s) n (λ h. b .ends (omega (arith, b .within)) (allowed-as s t a))
+    (λ h. b .here h (begins-whole s (suc n) (allowed-as s t a)))
+
+read-deep : (s : List ℕ) (t : Tree) (n : ℕ) → ReadsAs s t → DeepAt s n → ⊥
+read-deep s t n a b =
+    let whole = nested-shallow (a .text) (a .nests) in
+    let h : Shallow (take (length s) s) = subst Shallow (a .writes ∙ sym (take-length s)) whole in
+    let z = shallow-at s n (length s) (b .within) (omega arith) (b .opens) h in
+    omega (arith, b .deep)
+
+break-less : (s : List ℕ) (n m : ℕ) → BreaksAt s n → BreaksAt s m → n < m → ⊥
+break-less s n m a b h =
+    a .here (omega (arith, b .within)) (begins-less s (suc n) m h (b .before))
+
+break-deep : (s : List ℕ) (n m : ℕ) → BreaksAt s n → DeepAt s m → ⊥
+break-deep s n m a b =
+    either n m (λ h. a .here (omega (arith, b .within)) (begins-less s (suc n) (suc m) (omega arith) (b .can)))
+    (λ h. omega (arith, shallow-at s m n h (a .within) (b .opens) (a .shallow), b .deep))
+
+deep-less : (s : List ℕ) (n m : ℕ) → DeepAt s n → DeepAt s m → n < m → ⊥
+deep-less s n m a b h =
+    omega (arith, shallow-at s n m h (omega (arith, b .within)) (a .opens) (b .shallow), a .deep)
+
+-- From what a text is to the reader's answer.
+to-done : (s : List ℕ) (t : Tree) {a : Answer} → ReadsAs s t → Answered s a → a ≡ done t
+to-done s t r (accepted {t = u} x) = ap done (read-read s u t x r)
+to-done s t r (broke {n = n} x) = absurd (read-break s t n r x)
+to-done s t r (deeper {n = n} x) = absurd (read-deep s t n r x)
+
+to-breaks : (s : List ℕ) (n : ℕ) {a : Answer} → BreaksAt s n → Answered s a → a ≡ breaks n
+to-breaks s n r (accepted {t = u} x) = absurd (read-break s u n x r)
+to-breaks s n r (broke {n = m} x) = ap breaks (equal m n (break-less s m n x r) (break-less s n m r x))
+to-breaks s n r (deeper {n = m} x) = absurd (break-deep s n m r x)
+
+to-deep : (s : List ℕ) (n : ℕ) {a : Answer} → DeepAt s n → Answered s a → a ≡ deep n
+to-deep s n r (accepted {t = u} x) = absurd (read-deep s u n x r)
+to-deep s n r (broke {n = m} x) = absurd (break-deep s m n x r)
+to-deep s n r (deeper {n = m} x) = ap deep (equal m n (deep-less s m n x r) (deep-less s n m r x))
+
+from-done : {s : List ℕ} {t : Tree} → Answered s (done t) → ReadsAs s t
+from-done (accepted x) = x
+
+from-breaks : {s : List ℕ} {n : ℕ} → Answered s (breaks n) → BreaksAt s n
+from-breaks (broke x) = x
+
+from-deep : {s : List ℕ} {n : ℕ} → Answered s (deep n) → DeepAt s n
+from-deep (deeper x) = x
+
+-- The reader accepts exactly the allowed texts that nest at most 32 deep, each as its tree; it answers 17 at byte n
+-- exactly if the text breaks there; and 18 exactly if a bracket is too deep there.
+pub reads-exactly : (s : List ℕ) (t : Tree) → (reader s ≡ done t) ↔ ReadsAs s t
+reads-exactly s t =
+    (λ e. from-done (subst (Answered s) e (reader-answers s)), λ r. to-done s t r (reader-answers s))
+
+pub breaks-exactly : (s : List ℕ) (n : ℕ) → (reader s ≡ breaks n) ↔ BreaksAt s n
+breaks-exactly s n =
+    (λ e. from-breaks (subst (Answered s) e (reader-answers s)), λ r. to-breaks s n r (reader-answers s))
+
+pub deep-exactly : (s : List ℕ) (n : ℕ) → (reader s ≡ deep n) ↔ DeepAt s n
+deep-exactly s n =
+    (λ e. from-deep (subst (Answered s) e (reader-answers s)), λ r. to-deep s n r (reader-answers s))
+
+-- So every allowed text within the limit is read.
+pub reads-allowed : (x : Text) → nestOf x ≤ nestLimit → reader (bytesOf x) ≡ done (treeOf x)
+reads-allowed x h =
+    reads-exactly (bytesOf x) (treeOf x) .1 (record { text = x; writes = refl; tree = refl; nests = h })

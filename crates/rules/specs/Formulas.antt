@@ -232,6 +232,13 @@ pub record CanBegin (p : List ℕ) : Type 0 where
   pub rest : List ℕ
   pub writes : bytesOf text ≡ p ++ rest
 
+-- An allowed text of the tree t whose brackets stand at most 32 inside each other.
+pub record ReadsAs (s : List ℕ) (t : Tree) : Type 0 where
+  pub text : Text
+  pub writes : bytesOf text ≡ s
+  pub tree : treeOf text ≡ t
+  pub nests : nestOf text ≤ nestLimit
+
 -- How many brackets are open after the bytes p, n being open before them.
 abbrev pub openAfter : ℕ → ℕ → ℕ
 openAfter n b = pick (eqb b 40) (suc n) (pick (eqb b 41) (n - 1) n)
