@@ -1,6 +1,6 @@
 -- An allowed text nests at most 32 deep exactly if none of its brackets opens inside 32 others.
-use mathlib.Core.Path.{_≡_, refl, sym, _∙_, ap, subst}
-use mathlib.Core.Bool.{Bool, true, false, _&&_}
+use mathlib.Core.Path.{_≡_, refl, sym, ap, subst}
+use mathlib.Core.Bool.{true, false}
 use mathlib.Core.List.{List, [], _∷_, _++_}
 use Prim.Native.Nat.{ℕ, zero, suc, _+_, _-_, _≤_, _<_, max}
 use native.Mathlib.Omega.{arith}
@@ -8,13 +8,13 @@ use lib.Dec.{eqb, leb}
 use lib.ListN.{length, length-append}
 use borrow.Author.Tests.{leb-true, eqb-false, ne-eqb}
 use Rattle.rules.specs.Trees.{Axis, axisX, axisY, axisZ}
-use Rattle.rules.specs.Formulas.{nestLimit, isDigit, Digits, one, more, Whole, Decimals, Number, whole, decimal}
-use Rattle.rules.specs.Formulas.{SumJoin, plus, less, ProductJoin, times, over, One, absName, sqrName, rootName}
-use Rattle.rules.specs.Formulas.{Two, minName, maxName, Sum, product, joined, Product, signed, multiplied, Signed}
-use Rattle.rules.specs.Formulas.{plain, minus, Item, constant, variable, bracket, call, pair, Text, spaces}
-use Rattle.rules.specs.Formulas.{writeDigits, writeNumber, axisByte, sumByte, productByte, writeOne, writeTwo}
-use Rattle.rules.specs.Formulas.{writeSum, writeProduct, writeSigned, writeItem, bytesOf, openAfter, insideFrom}
-use Rattle.rules.specs.Formulas.{inside, Shallow, nestSum, nestProduct, nestSigned, nestItem, nestOf}
+use Rattle.rules.specs.Formulas.{nestLimit, isDigit, Digits, one, more, Number, whole, decimal, SumJoin, plus}
+use Rattle.rules.specs.Formulas.{less, ProductJoin, times, over, One, absName, sqrName, rootName, Two, minName}
+use Rattle.rules.specs.Formulas.{maxName, Sum, product, joined, Product, signed, multiplied, Signed, plain, minus}
+use Rattle.rules.specs.Formulas.{Item, constant, variable, bracket, call, pair, Text, spaces, writeDigits}
+use Rattle.rules.specs.Formulas.{writeNumber, axisByte, sumByte, productByte, writeOne, writeTwo, writeSum}
+use Rattle.rules.specs.Formulas.{writeProduct, writeSigned, writeItem, bytesOf, openAfter, insideFrom, Shallow}
+use Rattle.rules.specs.Formulas.{nestSum, nestProduct, nestSigned, nestItem, nestOf}
 use Rattle.rules.proofs.Tests.{and-left}
 
 -- No bracket of these bytes opens inside 32 others, n being open before them.
@@ -25,8 +25,10 @@ ShallowFrom n (b ∷ r) = (b ≡ 40 → n < nestLimit) × ShallowFrom (openAfter
 from-each : (n : ℕ) (p : List ℕ) → ((q r : List ℕ) → p ≡ q ++ 40 ∷ r → insideFrom n q < nestLimit) → ShallowFrom n p
 unfolding ShallowFrom insideFrom
 from-each n [] f = tt
-from-each n (b ∷ p) f =
-    (λ e. f [] p (ap (λ (c : ℕ). c ∷ p) e), from-each (openAfter n b) p (λ q r e. f (b ∷ q) r (ap (λ (l : List ℕ). b ∷ l) e)))
+from-each n (b ∷ p) f = (
+  λ e. f [] p (ap (λ (c : ℕ). c ∷ p) e),
+  from-each (openAfter n b) p (λ q r e. f (b ∷ q) r (ap (λ (l : List ℕ). b ∷ l) e)),
+)
 
 to-each : (n : ℕ) (p q r : List ℕ) → ShallowFrom n p → p ≡ q ++ 40 ∷ r → insideFrom n q < nestLimit
 unfolding ShallowFrom insideFrom
@@ -74,8 +76,11 @@ bracketed : (n m : ℕ) (w : List ℕ → List ℕ) → Nests (suc n) m w → Ne
 unfolding ShallowFrom
 bracketed n m w f =
     record {
-      into = λ r h s. (λ q. omega arith, f .into (41 ∷ r) (omega arith)
-          (λ q. absurd (omega arith), subst (λ (k : ℕ). ShallowFrom k r) same s));
+      into = λ r h s. (
+        λ q. omega arith,
+        f .into (41 ∷ r) (omega arith)
+            (λ q. absurd (omega arith), subst (λ (k : ℕ). ShallowFrom k r) same s),
+      );
       out = λ r h s.
           let less : n < nestLimit = s .0 refl in
           let (p, t) = f .out (41 ∷ r) (omega arith) (s .1) in
@@ -156,6 +161,7 @@ named-around n m k h v w f g =
 
 mutual
   unfolding writeSum nestSum
+
   nests-sum : (s : Sum) (n : ℕ) → Nests n (nestSum s) (writeSum s)
   nests-sum (product p) n = nests-product p n
   nests-sum (joined s k o p) n =
@@ -194,7 +200,9 @@ mutual
 -- A whole text.
 nests-text : (t : Text) → Nests 0 (nestOf t) (λ r. writeSum (t .sum) (spaces (t .after) r))
 unfolding nestOf
-nests-text t = before-flat 0 (nestSum (t .sum)) (writeSum (t .sum)) (spaces (t .after)) (nests-sum (t .sum) 0) (blanks 0 (t .after))
+nests-text t =
+    before-flat 0 (nestSum (t .sum)) (writeSum (t .sum)) (spaces (t .after)) (nests-sum (t .sum) 0)
+    (blanks 0 (t .after))
 
 pub nested-shallow : (t : Text) → nestOf t ≤ nestLimit → Shallow (bytesOf t)
 unfolding bytesOf ShallowFrom

@@ -1,31 +1,31 @@
 -- A text's beginning as parts of the grammar: what the reader has read, beside what it keeps. Each byte that it takes
 -- is one more byte of the parts, and from any parts an allowed text can be finished.
-use mathlib.Core.Path.{_≡_, refl, sym, _∙_, ap, ap₂, subst}
+use mathlib.Core.Path.{_≡_, refl, sym, _∙_, ap, subst}
 use mathlib.Core.Bool.{Bool, true, false, _&&_}
-use mathlib.Core.List.{List, [], _∷_, _++_}
+use mathlib.Core.List.{List, [], _∷_}
 use Prim.Native.Nat.{ℕ, zero, suc, _+_, _-_, _*_, _≤_}
 use native.Mathlib.Omega.{arith}
 use lib.Dec.{eqb, leb}
 use lib.ListN.{length}
 use borrow.Author.Tests.{leb-true, eqb-true, ne-eqb}
 use Rattle.rules.specs.Values.{pick}
-use Rattle.rules.specs.Trees.{Tree, Axis, axisX, axisY, axisZ, binary, unary, negate}
-use Rattle.rules.specs.Formulas.{isDigit, Digits, one, more, count, value, Whole, Decimals, Number, whole, decimal}
-use Rattle.rules.specs.Formulas.{SumJoin, plus, less, ProductJoin, times, over, One, absName, sqrName, rootName}
-use Rattle.rules.specs.Formulas.{Two, minName, maxName, Sum, product, joined, Product, signed, multiplied, Signed}
-use Rattle.rules.specs.Formulas.{plain, minus, Item, constant, variable, bracket, call, pair, Text, spaces}
-use Rattle.rules.specs.Formulas.{writeDigits, sumByte, productByte, writeOne, writeTwo, openAfter}
-use Rattle.rules.specs.Formulas.{writeSum, writeProduct, writeSigned, writeItem, bytesOf, sumTree, productTree}
-use Rattle.rules.specs.Formulas.{oneTree, twoTree, treeSum, treeProduct, treeSigned, treeItem, treeOf}
-use Rattle.rules.specs.FormulaReader.{Left, none, waits, Level, level, fresh, joinLeft, signTree, productTo, sumTo}
-use Rattle.rules.specs.FormulaReader.{Opener, opened, called, firstOf, secondOf, Frame, frame, Ended, item, digits}
-use Rattle.rules.specs.FormulaReader.{decimals, endTree, Mode, want, spelling, named, point, after, State, state}
-use Rattle.rules.specs.FormulaReader.{Spelling, a-, ab-, s-, sq-, r-, ro-, roo-, m-, mi-, ma-, Move, no, go, Row}
-use Rattle.rules.specs.FormulaReader.{row, choose, push, openerOf, ofOne, ofTwo, Function, moveIn, move}
-use Rattle.rules.specs.FormulaReader.{wantRows, spellRows, namedRows, closeRow, closeRows, joinRows, digitMove}
-use Rattle.rules.specs.FormulaReader.{pointMove, minusMove, whenFits, Answer, done, breaks, endIn}
+use Rattle.rules.specs.Trees.{Tree, axisX, axisY, axisZ, binary, unary}
+use Rattle.rules.specs.Formulas.{isDigit, one, more, count, value, Whole, Decimals, whole, decimal, SumJoin, plus}
+use Rattle.rules.specs.Formulas.{less, ProductJoin, times, over, One, absName, sqrName, rootName, Two, minName}
+use Rattle.rules.specs.Formulas.{maxName, Sum, product, joined, Product, signed, multiplied, Signed, plain, minus}
+use Rattle.rules.specs.Formulas.{Item, constant, variable, bracket, call, pair, Text, spaces, writeDigits}
+use Rattle.rules.specs.Formulas.{sumByte, productByte, writeOne, writeTwo, openAfter, writeSum, writeProduct}
+use Rattle.rules.specs.Formulas.{writeSigned, writeItem, bytesOf, sumTree, productTree, oneTree, twoTree, treeSum}
+use Rattle.rules.specs.Formulas.{treeProduct, treeSigned, treeItem, treeOf}
+use Rattle.rules.specs.FormulaReader.{Left, none, waits, Level, level, joinLeft, signTree, productTo, sumTo}
+use Rattle.rules.specs.FormulaReader.{Opener, opened, called, firstOf, secondOf, Frame, frame, Ended, item}
+use Rattle.rules.specs.FormulaReader.{digits, decimals, endTree, Mode, want, spelling, named, point, after, State}
+use Rattle.rules.specs.FormulaReader.{state, Spelling, a-, ab-, s-, sq-, r-, ro-, roo-, m-, mi-, ma-, Move, no}
+use Rattle.rules.specs.FormulaReader.{go, Row, choose, push, ofOne, ofTwo, Function, moveIn, move, wantRows}
+use Rattle.rules.specs.FormulaReader.{spellRows, namedRows, closeRow, closeRows, joinRows, digitMove, pointMove}
+use Rattle.rules.specs.FormulaReader.{minusMove, whenFits, Answer, done, breaks, endIn}
 use Rattle.rules.proofs.Tests.{and-left, and-right}
-use Rattle.rules.proofs.FormulaTakes.{ending, ending-tree, ended, numberEnd}
+use Rattle.rules.proofs.FormulaTakes.{ending, ending-tree, ended}
 
 -- What stands left of an item in its bracket.
 pub data SumLeft : Type 0 where
@@ -319,16 +319,31 @@ plainly to e w o = record { to = to; shows = e; writes = w; nests = o }
 want-rows : (n : ℕ) (l : Part) (k : List Open)
     → AllRows (partial (wants n) l k) (wantRows (levelOf l) (framesOf k))
 unfolding ending treeSum writeSum spaces
-want-rows n l k =
-    (plainly (partial (wants (suc n)) l k) refl (λ r. refl) refl
-    , (plainly (partial (wants 0) freshPart (opens l (openPlain n) ∷ k)) refl (λ r. refl) refl
-    , (plainly (partial (ends (variable n axisX) 0) l k) refl (λ r. refl) refl
-    , (plainly (partial (ends (variable n axisY) 0) l k) refl (λ r. refl) refl
-    , (plainly (partial (ends (variable n axisZ) 0) l k) refl (λ r. refl) refl
-    , (plainly (partial (spells n a-) l k) refl (λ r. refl) refl
-    , (plainly (partial (spells n s-) l k) refl (λ r. refl) refl
-    , (plainly (partial (spells n r-) l k) refl (λ r. refl) refl
-    , (plainly (partial (spells n m-) l k) refl (λ r. refl) refl, tt)))))))))
+want-rows n l k = (
+  plainly (partial (wants (suc n)) l k) refl (λ r. refl) refl,
+  (
+    plainly (partial (wants 0) freshPart (opens l (openPlain n) ∷ k)) refl (λ r. refl) refl,
+    (
+      plainly (partial (ends (variable n axisX) 0) l k) refl (λ r. refl) refl,
+      (
+        plainly (partial (ends (variable n axisY) 0) l k) refl (λ r. refl) refl,
+        (
+          plainly (partial (ends (variable n axisZ) 0) l k) refl (λ r. refl) refl,
+          (
+            plainly (partial (spells n a-) l k) refl (λ r. refl) refl,
+            (
+              plainly (partial (spells n s-) l k) refl (λ r. refl) refl,
+              (
+                plainly (partial (spells n r-) l k) refl (λ r. refl) refl,
+                (plainly (partial (spells n m-) l k) refl (λ r. refl) refl, tt),
+              ),
+            ),
+          ),
+        ),
+      ),
+    ),
+  ),
+)
 
 spell-rows : (n : ℕ) (p : Spelling) (l : Part) (k : List Open)
     → AllRows (partial (spells n p) l k) (spellRows p (levelOf l) (framesOf k))
@@ -340,9 +355,10 @@ spell-rows n sq- l k = (plainly (partial (names n (ofOne sqrName) 0) l k) refl (
 spell-rows n r- l k = (plainly (partial (spells n ro-) l k) refl (λ r. refl) refl, tt)
 spell-rows n ro- l k = (plainly (partial (spells n roo-) l k) refl (λ r. refl) refl, tt)
 spell-rows n roo- l k = (plainly (partial (names n (ofOne rootName) 0) l k) refl (λ r. refl) refl, tt)
-spell-rows n m- l k =
-    (plainly (partial (spells n mi-) l k) refl (λ r. refl) refl
-    , (plainly (partial (spells n ma-) l k) refl (λ r. refl) refl, tt))
+spell-rows n m- l k = (
+  plainly (partial (spells n mi-) l k) refl (λ r. refl) refl,
+  (plainly (partial (spells n ma-) l k) refl (λ r. refl) refl, tt),
+)
 spell-rows n mi- l k = (plainly (partial (names n (ofTwo minName) 0) l k) refl (λ r. refl) refl, tt)
 spell-rows n ma- l k = (plainly (partial (names n (ofTwo maxName) 0) l k) refl (λ r. refl) refl, tt)
 
@@ -353,12 +369,14 @@ openingOf n (ofTwo f) h = openFirst n f h
 named-rows : (n : ℕ) (f : Function) (h : ℕ) (l : Part) (k : List Open)
     → AllRows (partial (names n f h) l k) (namedRows f (levelOf l) (framesOf k))
 unfolding spaces
-named-rows n (ofOne f) h l k =
-    (plainly (partial (names n (ofOne f) (suc h)) l k) refl (λ r. refl) refl
-    , (plainly (partial (wants 0) freshPart (opens l (openOne n f h) ∷ k)) refl (λ r. refl) refl, tt))
-named-rows n (ofTwo f) h l k =
-    (plainly (partial (names n (ofTwo f) (suc h)) l k) refl (λ r. refl) refl
-    , (plainly (partial (wants 0) freshPart (opens l (openFirst n f h) ∷ k)) refl (λ r. refl) refl, tt))
+named-rows n (ofOne f) h l k = (
+  plainly (partial (names n (ofOne f) (suc h)) l k) refl (λ r. refl) refl,
+  (plainly (partial (wants 0) freshPart (opens l (openOne n f h) ∷ k)) refl (λ r. refl) refl, tt),
+)
+named-rows n (ofTwo f) h l k = (
+  plainly (partial (names n (ofTwo f) (suc h)) l k) refl (λ r. refl) refl,
+  (plainly (partial (wants 0) freshPart (opens l (openFirst n f h) ∷ k)) refl (λ r. refl) refl, tt),
+)
 
 point-goes : (n : ℕ) (w : Whole) (b : ℕ) (l : Part) (k : List Open) → isDigit b ≡ true
     → Goes (partial (points n w) l k) b (ended (decimals (value (w .digits)) (b - 48) 1) (levelOf l) (framesOf k))
@@ -490,11 +508,14 @@ plus-goes o i j l k =
 join-rows : (i : Item) (j : ℕ) (l : Part) (k : List Open)
     → AllRows (partial (ends i j) l k) (joinRows (levelOf l) (framesOf k) (endTree (endAt i j)))
 unfolding spaces
-join-rows i j l k =
-    (plainly (partial (ends i (suc j)) l k)
-    (ap (λ (t : Tree). ended (item t) (levelOf l) (framesOf k)) (same-end i j)) (λ r. refl) refl
-    , (times-goes times i j l k
-    , (times-goes over i j l k, (plus-goes plus i j l k, (plus-goes less i j l k, close-rows i j l k)))))
+join-rows i j l k = (
+  plainly (partial (ends i (suc j)) l k)
+      (ap (λ (t : Tree). ended (item t) (levelOf l) (framesOf k)) (same-end i j)) (λ r. refl) refl,
+  (
+    times-goes times i j l k,
+    (times-goes over i j l k, (plus-goes plus i j l k, (plus-goes less i j l k, close-rows i j l k))),
+  ),
+)
 
 -- Every byte.
 good-in : (m : Reading) (l : Part) (k : List Open) (b : ℕ)

@@ -1,25 +1,22 @@
 -- The reader goes through every allowed text, to the text's tree.
 use mathlib.Core.Path.{_≡_, refl, sym, _∙_, ap, ap₂}
-use mathlib.Core.Bool.{Bool, true, false, _&&_}
-use mathlib.Core.List.{List, [], _∷_, _++_}
+use mathlib.Core.Bool.{true, false}
+use mathlib.Core.List.{List, [], _∷_}
 use Prim.Native.Nat.{ℕ, zero, suc, _+_, _-_, _*_, _≤_}
 use native.Mathlib.Omega.{arith}
-use lib.Dec.{leb}
 use borrow.Author.Tests.{le-leb}
-use lib.IntN.{pos}
 use Rattle.rules.specs.Trees.{Tree, Axis, axisX, axisY, axisZ, binary, unary, negate}
-use Rattle.rules.specs.Formulas.{isDigit, Digits, one, more, count, value, Whole, Decimals, Number, whole, decimal}
-use Rattle.rules.specs.Formulas.{SumJoin, plus, less, ProductJoin, times, over, One, absName, sqrName, rootName}
-use Rattle.rules.specs.Formulas.{Two, minName, maxName, Sum, product, joined, Product, signed, multiplied, Signed}
-use Rattle.rules.specs.Formulas.{plain, minus, Item, constant, variable, bracket, call, pair, Text, spaces}
-use Rattle.rules.specs.Formulas.{writeDigits, writeNumber, axisByte, sumByte, productByte, writeOne, writeTwo}
-use Rattle.rules.specs.Formulas.{writeSum, writeProduct, writeSigned, writeItem, bytesOf, sumTree, productTree}
-use Rattle.rules.specs.Formulas.{oneTree, twoTree, treeSum, treeProduct, treeSigned, treeItem, treeOf}
-use Rattle.rules.specs.FormulaReader.{Left, none, waits, Level, level, fresh, joinLeft, productTo, sumTo, Opener}
-use Rattle.rules.specs.FormulaReader.{opened, called, firstOf, secondOf, Frame, frame, Ended, item, digits}
-use Rattle.rules.specs.FormulaReader.{decimals, endTree, want, named, point, after, State, state, start, Move, no}
-use Rattle.rules.specs.FormulaReader.{go, choose, push, openerOf, ofOne, ofTwo, Function, moveIn, move, digitMove}
-use Rattle.rules.specs.FormulaReader.{whenFits}
+use Rattle.rules.specs.Formulas.{isDigit, Digits, one, more, count, value, Number, whole, decimal, SumJoin, plus}
+use Rattle.rules.specs.Formulas.{less, ProductJoin, times, over, One, absName, sqrName, rootName, Two, minName}
+use Rattle.rules.specs.Formulas.{maxName, Sum, product, joined, Product, signed, multiplied, Signed, plain, minus}
+use Rattle.rules.specs.Formulas.{Item, constant, variable, bracket, call, pair, Text, spaces, writeDigits}
+use Rattle.rules.specs.Formulas.{writeNumber, sumByte, productByte, writeOne, writeTwo, writeSum, writeProduct}
+use Rattle.rules.specs.Formulas.{writeSigned, writeItem, bytesOf, sumTree, productTree, oneTree, twoTree, treeSum}
+use Rattle.rules.specs.Formulas.{treeProduct, treeSigned, treeItem, treeOf}
+use Rattle.rules.specs.FormulaReader.{Left, none, waits, Level, level, fresh, joinLeft, productTo, sumTo, opened}
+use Rattle.rules.specs.FormulaReader.{called, firstOf, secondOf, Frame, frame, Ended, item, digits, decimals}
+use Rattle.rules.specs.FormulaReader.{endTree, want, named, point, after, State, state, start, Move, no, go}
+use Rattle.rules.specs.FormulaReader.{choose, ofOne, ofTwo, Function, moveIn, move}
 
 -- Where some bytes lead.
 abbrev pub moved : Move → ℕ → Move
@@ -134,6 +131,9 @@ pub record Taken (from : State) (k : List Frame) (w : List ℕ → List ℕ) (P 
   pub holds : P last (endTree end)
   pub goes : (r : List ℕ) → reach (go from) (w r) ≡ reach (go (ended end last k)) r
 
+abbrev wantAfter : Left → Left → List Frame → State
+wantAfter u q k = state want (level u q false) k
+
 abbrev TakenSum : List Frame → Sum → Type 0
 TakenSum k s = Taken (state want fresh k) k (writeSum s) (λ l t. sumTo l t ≡ treeSum s)
 
@@ -202,7 +202,7 @@ multiplied-taken u k p n o g h f =
       holds = f .holds;
       goes = λ r. h .goes (spaces n (productByte o ∷ writeSigned g r))
           ∙ times-step o (h .end) (h .last) k n (writeSigned g r)
-          ∙ ap₂ (λ (v : Left) (t : Tree). reach (go (state want (level v (waits t (productTree o)) false) k)) (writeSigned g r))
+          ∙ ap₂ (λ (v : Left) (t : Tree). reach (go (wantAfter v (waits t (productTree o)) k)) (writeSigned g r))
           (h .holds .0) (h .holds .1)
           ∙ f .goes r;
     }
@@ -227,7 +227,7 @@ joined-taken k s n o p h f =
       holds = ap₂ joinLeft (f .holds .0) (f .holds .1);
       goes = λ r. h .goes (spaces n (sumByte o ∷ writeProduct p r))
           ∙ plus-step o (h .end) (h .last) k n (writeProduct p r)
-          ∙ ap (λ (t : Tree). reach (go (state want (level (waits t (sumTree o)) none false) k)) (writeProduct p r)) (h .holds)
+          ∙ ap (λ (t : Tree). reach (go (wantAfter (waits t (sumTree o)) none k)) (writeProduct p r)) (h .holds)
           ∙ f .goes r;
     }
 

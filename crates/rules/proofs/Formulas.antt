@@ -3,7 +3,7 @@ use mathlib.Core.Path.{_≡_, refl, sym, _∙_, ap, subst}
 use mathlib.Core.Bool.{Bool, true, false, _&&_}
 use mathlib.Core.List.{List, [], _∷_, _++_, append-assoc, append-nil}
 use mathlib.Core.Logic.{_⊎_, inl, inr, _↔_}
-use Prim.Native.Nat.{ℕ, zero, suc, _+_, _-_, _≤_, _<_}
+use Prim.Native.Nat.{ℕ, suc, _≤_, _<_}
 use native.Mathlib.Omega.{arith}
 use lib.Dec.{eqb, leb}
 use lib.IntN.{pos}
@@ -13,14 +13,14 @@ use borrow.Author.Tests.{eqb-true, leb-true, leb-false}
 use Rattle.rules.specs.Trees.{Tree, number}
 use Rattle.rules.specs.Formulas.{nestLimit, Text, bytesOf, treeOf, nestOf, spaces, Allowed, CanBegin, openAfter}
 use Rattle.rules.specs.Formulas.{insideFrom, inside, ReadsAs, Shallow, BreaksAt, DeepAt}
-use Rattle.rules.specs.FormulaReader.{sumTo, endTree, State, start, Move, no, go, move, Answer, done, breaks, deep}
-use Rattle.rules.specs.FormulaReader.{Level, Mode, want, spelling, named, point, after}
-use Rattle.rules.specs.FormulaReader.{endIn, tooDeep, onward, answer, reader}
+use Rattle.rules.specs.FormulaReader.{sumTo, endTree, State, start, Move, no, go, move, Answer, done, breaks}
+use Rattle.rules.specs.FormulaReader.{deep, Level, Mode, want, spelling, named, point, after, endIn, tooDeep}
+use Rattle.rules.specs.FormulaReader.{onward, answer, reader}
 use Rattle.rules.proofs.Tests.{and-left, and-right}
-use Rattle.rules.proofs.FormulaTakes.{moved, reach, ended, Through, goes-through}
+use Rattle.rules.proofs.FormulaTakes.{moved, reach, goes-through}
 use Rattle.rules.proofs.FormulaParts.{Partial, stateOf, write, Goes, Good, goes, good-move, finish, ends-as}
-use Rattle.rules.proofs.FormulaNesting.{nested-shallow, shallow-nested}
 use Rattle.rules.proofs.FormulaParts.{EndsAs, broken, whole-text, startParts}
+use Rattle.rules.proofs.FormulaNesting.{nested-shallow, shallow-nested}
 
 -- Where bytes lead, a part after the other.
 reach-append : (p q : List ℕ) (m : Move) → reach m (p ++ q) ≡ reach (reach m p) q
@@ -163,7 +163,18 @@ at-end p s n h sh e =
         let e = w ∙ h .writes [] ∙ append-nil p in
         accepted (record { text = x; writes = e; tree = t; nests = shallow-nested x (subst Shallow (sym e) sh) })
 
--- At a byte.
+-- At a byte; a bracket that is too deep, and one that is not.
+many-open : (p : List ℕ) (s : State) (b : ℕ) → Read p s → tooDeep s b ≡ true → nestLimit ≤ inside p
+many-open p s b h g =
+    let k = length (s .stack) in
+    omega (arith, h .nests, leb-true nestLimit k (and-right (eqb b 40) (leb nestLimit k) g))
+
+not-deep : (p : List ℕ) (s : State) (b : ℕ) → Read p s → tooDeep s b ≡ false → b ≡ 40 → inside p < nestLimit
+not-deep p s b h e q = omega (arith, h .nests, leb-false nestLimit (length (s .stack)) f)
+  where
+    f : leb nestLimit (length (s .stack)) ≡ false
+    f = ap (λ (c : ℕ). eqb c 40 && leb nestLimit (length (s .stack))) (sym q) ∙ e
+
 at-byte : (p : List ℕ) (s : State) (n b : ℕ) (r : List ℕ) → Read p s → Shallow p → length p ≡ n
     → (m : Move) → move s b ≡ m → (d : Bool) → tooDeep s b ≡ d
     → ((t : State) → move s b ≡ go t → tooDeep s b ≡ false → Answered (p ++ b ∷ r) (answer (suc n) t r))
@@ -185,18 +196,10 @@ at-byte p s n b r h sh e (go t) f true g next =
       within = omega (arith, length-append p (b ∷ r));
       opens = getD-at p b r 0 n e ∙ eqb-true b 40 (and-left (eqb b 40) (leb nestLimit (length (s .stack))) g);
       can = rw (take-one-more p b r n e) (read-begins (p ++ b ∷ []) t (read-step p s b t h f));
-      deep = rw (take-at p (b ∷ r) n e)
-          (omega (arith, h .nests, leb-true nestLimit (length (s .stack)) (and-right (eqb b 40) (leb nestLimit (length (s .stack))) g)));
+      deep = rw (take-at p (b ∷ r) n e) (many-open p s b h g);
       shallow = rw (take-at p (b ∷ r) n e) sh;
     })
 at-byte p s n b r h sh e (go t) f false g next = next t f g
-
--- A bracket that is not too deep.
-not-deep : (p : List ℕ) (s : State) (b : ℕ) → Read p s → tooDeep s b ≡ false → b ≡ 40 → inside p < nestLimit
-not-deep p s b h e q = omega (arith, h .nests, leb-false nestLimit (length (s .stack)) f)
-  where
-    f : leb nestLimit (length (s .stack)) ≡ false
-    f = ap (λ (c : ℕ). eqb c 40 && leb nestLimit (length (s .stack))) (sym q) ∙ e
 
 answered : (r p : List ℕ) (s : State) (n : ℕ) → Read p s → Shallow p → length p ≡ n → Answered (p ++ r) (answer n s r)
 unfolding answer
