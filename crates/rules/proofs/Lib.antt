@@ -38,5 +38,6 @@ pub mod Example
 pub mod Program
 pub mod FormulaTakes
 pub mod FormulaParts
+pub mod FormulaFigures
 pub mod FormulaNesting
 pub mod Formulas
