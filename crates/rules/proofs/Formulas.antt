@@ -18,8 +18,9 @@ use Rattle.rules.specs.FormulaReader.{deep, Level, Mode, want, spelling,
 use Rattle.rules.specs.FormulaReader.{onward, answer, reader}
 use Rattle.rules.proofs.Tests.{and-left, and-right}
 use Rattle.rules.proofs.FormulaTakes.{moved, reach, goes-through}
-use Rattle.rules.proofs.FormulaParts.{Partial, stateOf, write, Goes, Good, goes, good-move, finish, ends-as}
-use Rattle.rules.proofs.FormulaParts.{EndsAs, broken, whole-text, startParts}
+use Rattle.rules.proofs.FormulaParts.{Partial, stateOf, write}
+use Rattle.rules.proofs.FormulaMoves.{Goes, Good, goes, good-move}
+use Rattle.rules.proofs.FormulaEnds.{EndsAs, broken, whole-text, startParts, finish, ends-as}
 use Rattle.rules.proofs.FormulaNesting.{nested-shallow, shallow-nested}
 
 -- Where bytes lead, a part after the other.

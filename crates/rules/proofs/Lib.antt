@@ -38,6 +38,8 @@ pub mod Example
 pub mod Program
 pub mod FormulaTakes
 pub mod FormulaParts
-pub mod FormulaFigures
+pub mod FormulaMoves
+pub mod FormulaEnds
 pub mod FormulaNesting
 pub mod Formulas
+pub mod FormulaFigures
