@@ -20,6 +20,7 @@ use Rattle.rules.specs.FormulaReader.{mi-, ma-, Move, no, go, Row, choos
 use Rattle.rules.specs.FormulaReader.{move, wantRows, spellRows, namedRows, closeRow, closeRows, joinRows}
 use Rattle.rules.specs.FormulaReader.{digitMove, pointMove, minusMove, whenFits}
 use Rattle.rules.proofs.Tests.{and-left, and-right}
+use Rattle.rules.proofs.FormulaNumbers.{digit-below}
 use Rattle.rules.proofs.FormulaTakes.{ending, ended}
 use Rattle.rules.proofs.FormulaParts.{Open, Opening, Part, Partial, ProductLeft, Reading, Sign, SumLeft, bare}
 use Rattle.rules.proofs.FormulaParts.{endAt, ends, framesOf, freshPart, item-bytes, item-product-bytes}
@@ -66,9 +67,6 @@ digit-open n b e =
     let h = leb-true 48 b (and-left (leb 48 b) (leb b 57) e) in
     rw (ne-eqb b 40 (λ q. omega arith), ne-eqb b 41 (λ q. omega arith))
 
-small-digit : (b : ℕ) → isDigit b ≡ true → b - 48 ≤ 9
-small-digit b e = omega (arith, leb-true b 57 (and-right (leb 48 b) (leb b 57) e))
-
 -- An item may begin.
 digit-goes : (n b : ℕ) (l : Part) (k : List Open) → isDigit b ≡ true
     → Goes (partial (wants n) l k) b (ended (digits (b - 48) 1) (levelOf l) (framesOf k))
@@ -82,7 +80,7 @@ digit-goes n b l k e =
     }
   where
     small : b - 48 ≤ 32767
-    small = omega (arith, small-digit b e)
+    small = omega (arith, digit-below b e)
 
 minus-good : (n : ℕ) (u : SumLeft) (q : ProductLeft) (g : Sign) (k : List Open)
     → Good (partial (wants n) (part u q g) k) 45 (minusMove (levelOf (part u q g)) (framesOf k))
@@ -93,7 +91,8 @@ minus-good n u q (negated m) k = stops
 
 -- The state is that of the parts as it stands, in the same brackets.
 plainly : {d : Partial} {b : ℕ} {s : State} (to : Partial) → stateOf to ≡ s
-    → ((r : List ℕ) → write to r ≡ write d (b ∷ r)) → length (s .stack) ≡ openAfter (length (stateOf d .stack)) b → Goes d b s
+    → ((r : List ℕ) → write to r ≡ write d (b ∷ r))
+    → length (s .stack) ≡ openAfter (length (stateOf d .stack)) b → Goes d b s
 plainly to e w o = record { to = to; shows = e; writes = w; nests = o }
 
 want-rows : (n : ℕ) (l : Part) (k : List Open)

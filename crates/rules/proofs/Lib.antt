@@ -36,10 +36,12 @@ pub mod RestatedPictures
 pub mod Demands
 pub mod Example
 pub mod Program
+pub mod FormulaNumbers
 pub mod FormulaTakes
 pub mod FormulaParts
 pub mod FormulaMoves
 pub mod FormulaEnds
 pub mod FormulaNesting
 pub mod Formulas
-pub mod FormulaFigures
+pub mod FormulaSteps
+pub mod FormulaTexts

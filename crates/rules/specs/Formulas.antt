@@ -71,8 +71,8 @@ pub data Two : Type 0 where
 -- "A sum is products joined by + or −; a product is signed items joined by *" or /; "an item is a number, x, y, z, a
 -- bracketed sum, or abs, sqr, root of one bracketed sum, min, max of two sums in one bracket with a comma between; a
 -- bracket holds a whole sum again. A sign is at most one minus". "Joining goes from the left": what was joined so far
--- stands left of the last join. Each ℕ counts the spaces before a join, a minus, a number, a name, a bracket or a comma,
--- in the order of the text.
+-- stands left of the last join. Each ℕ counts the spaces before a join, a minus, a number, a name, a bracket or a
+-- comma, in the order of the text.
 mutual
   pub data Sum : Type 0 where
     product : Product → Sum
