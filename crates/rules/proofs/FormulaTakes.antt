@@ -54,22 +54,22 @@ skip-after e l k zero b r h = ap (λ (m : Move). reach m r) h
 skip-after e l k (suc n) b r h = skip-after e l k n 32 (b ∷ r) refl
 
 -- Digits.
-first-digit : (c : ℕ) (l : Level) (k : List Frame) → isDigit c ≡ true
+pub first-digit : (c : ℕ) (l : Level) (k : List Frame) → isDigit c ≡ true
     → moveIn want l k c ≡ go (ended (digits (c - 48) 1) l k)
 unfolding moveIn
 first-digit c l k e = rw e
 
-next-digit : (v n c : ℕ) (l : Level) (k : List Frame) → isDigit c ≡ true → suc n ≤ 5 → 10 * v + (c - 48) ≤ 32767
+pub next-digit : (v n c : ℕ) (l : Level) (k : List Frame) → isDigit c ≡ true → suc n ≤ 5 → 10 * v + (c - 48) ≤ 32767
     → moveIn (after (digits v n)) l k c ≡ go (ended (digits (10 * v + (c - 48)) (suc n)) l k)
 unfolding moveIn
 next-digit v n c l k e h g = rw (e, le-leb (suc n) 5 h, le-leb (10 * v + (c - 48)) 32767 g)
 
-first-decimal : (v c : ℕ) (l : Level) (k : List Frame) → isDigit c ≡ true
+pub first-decimal : (v c : ℕ) (l : Level) (k : List Frame) → isDigit c ≡ true
     → moveIn (point v) l k c ≡ go (ended (decimals v (c - 48) 1) l k)
 unfolding moveIn
 first-decimal v c l k e = rw e
 
-next-decimal : (v f n c : ℕ) (l : Level) (k : List Frame) → isDigit c ≡ true → suc n ≤ 4
+pub next-decimal : (v f n c : ℕ) (l : Level) (k : List Frame) → isDigit c ≡ true → suc n ≤ 4
     → moveIn (after (decimals v f n)) l k c ≡ go (ended (decimals v (10 * f + (c - 48)) (suc n)) l k)
 unfolding moveIn
 next-decimal v f n c l k e h = rw (e, le-leb (suc n) 4 h)

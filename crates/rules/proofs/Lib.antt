@@ -44,4 +44,6 @@ pub mod FormulaEnds
 pub mod FormulaNesting
 pub mod Formulas
 pub mod FormulaSteps
+pub mod FormulaCalls
+pub mod FormulaItems
 pub mod FormulaTexts

@@ -10,3 +10,4 @@ pub mod Demands
 pub mod Trees
 pub mod Formulas
 pub mod FormulaReader
+pub mod FormulaCalls
