@@ -1,6 +1,6 @@
 -- What calls that read a sum, a product, a signed item or an item promise of the reader's answer: whatever stands
--- outside the part, the answer before it is the answer after it, or the part stops the reader. Only the calls' contracts
--- cite these; what the reader answers is the definition of the reader alone.
+-- outside the part, the answer before it is the answer after it, or the part stops the reader. Only such calls'
+-- contracts cite these.
 use mathlib.Core.Path.{_≡_}
 use mathlib.Core.Bool.{false}
 use mathlib.Core.List.{List}
@@ -91,4 +91,5 @@ pub record SignedStops (text : List ℕ) (n d : ℕ) (a : Answer) : Type 0 where
   pub same : (u q : Left) (k : List Frame) → length k ≡ d → answer n (state want (level u q false) k) (drop n text) ≡ a
 
 pub record ItemStops (text : List ℕ) (n d : ℕ) (a : Answer) : Type 0 where
-  pub same : (l : Level) (k : List Frame) → length k ≡ d → Unsigned text n l → answer n (state want l k) (drop n text) ≡ a
+  pub same : (l : Level) (k : List Frame) → length k ≡ d → Unsigned text n l
+      → answer n (state want l k) (drop n text) ≡ a
