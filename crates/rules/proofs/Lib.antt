@@ -36,3 +36,14 @@ pub mod RestatedPictures
 pub mod Demands
 pub mod Example
 pub mod Program
+pub mod FormulaNumbers
+pub mod FormulaTakes
+pub mod FormulaParts
+pub mod FormulaMoves
+pub mod FormulaEnds
+pub mod FormulaNesting
+pub mod Formulas
+pub mod FormulaSteps
+pub mod FormulaCalls
+pub mod FormulaItems
+pub mod FormulaTexts

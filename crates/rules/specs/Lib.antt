@@ -1,5 +1,6 @@
 -- What must hold, to be read against the scope paper: fixed-point values and ranges, tapes and what makes one accepted,
--- drawings, pictures and their files, the program, and the demands.
+-- drawings, pictures and their files, the program, and the demands; what a formula means, its
+-- text and the text's reader.
 pub mod Values
 pub mod Tapes
 pub mod Accepted
@@ -7,3 +8,7 @@ pub mod Drawings
 pub mod Pictures
 pub mod Program
 pub mod Demands
+pub mod Trees
+pub mod Formulas
+pub mod FormulaReader
+pub mod FormulaCalls
