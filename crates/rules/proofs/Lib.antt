@@ -36,3 +36,4 @@ pub mod RestatedPictures
 pub mod Demands
 pub mod Example
 pub mod Program
+pub mod FormulaSlots

@@ -1,5 +1,5 @@
 -- What must hold, to be read against the scope paper: fixed-point values and ranges, tapes and what makes one accepted,
--- drawings, pictures and their files, the program, and the demands; what a formula means.
+-- drawings, pictures and their files, the program, and the demands; what a formula means, and its tape.
 pub mod Values
 pub mod Tapes
 pub mod Accepted
@@ -8,3 +8,5 @@ pub mod Pictures
 pub mod Program
 pub mod Demands
 pub mod Trees
+pub mod FormulaTapes
+pub mod FormulaDepths

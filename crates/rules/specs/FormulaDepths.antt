@@ -1,0 +1,29 @@
+-- The tape of a formula as a reader writes it: by the number of operands that wait. The theorems of FormulaSlots say
+-- that it is the one of the slot rule, so that nothing here has to be believed.
+use mathlib.Core.List.{List, [], _∷_, _++_}
+use lib.IntN.{pos}
+use Prim.Native.Nat.{ℕ, suc, _+_, max}
+use Rattle.rules.specs.Values.{Clause}
+use Rattle.rules.specs.Trees.{Tree, number, axis, unary, binary}
+use Rattle.rules.specs.FormulaTapes.{axisOpcode, unaryOpcode, binaryOpcode, step}
+
+-- The clauses of a tree while operands wait in the slots below d: its result is in slot d.
+unfoldable pub clausesAt : ℕ → Tree → List Clause
+clausesAt d (number z) = step 0 d 0 0 z ∷ []
+clausesAt d (axis a) = step (axisOpcode a) d 0 0 (pos 0) ∷ []
+clausesAt d (unary u t) = clausesAt d t ++ (step (unaryOpcode u) d d 0 (pos 0) ∷ [])
+clausesAt d (binary b l r) =
+    clausesAt d l ++ (clausesAt (suc d) r ++ (step (binaryOpcode b) d d (suc d) (pos 0) ∷ []))
+
+-- How many clauses a tree has, and how many slots from d on it needs.
+unfoldable pub countOf : Tree → ℕ
+countOf (number z) = 1
+countOf (axis a) = 1
+countOf (unary u t) = countOf t + 1
+countOf (binary b l r) = countOf l + (countOf r + 1)
+
+unfoldable pub slotsOf : Tree → ℕ
+slotsOf (number z) = 1
+slotsOf (axis a) = 1
+slotsOf (unary u t) = slotsOf t
+slotsOf (binary b l r) = max (slotsOf l) (suc (slotsOf r))
