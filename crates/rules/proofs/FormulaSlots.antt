@@ -11,7 +11,7 @@ use lib.ListN.{length, length-append}
 use borrow.Author.Tests.{eqb-true, eqb-false, ltb-true, ltb-false}
 use Rattle.rules.specs.Values.{pick, Clause}
 use Rattle.rules.specs.Tapes.{Tape, isIn}
-use Rattle.rules.specs.Trees.{Tree, number, axis, unary, binary}
+use Rattle.rules.specs.Trees.{Unary, Binary, Axis, Tree, number, axis, unary, binary}
 use Rattle.rules.specs.FormulaTapes.{axisOpcode, unaryOpcode, binaryOpcode, step, Part, aNumber, anAxis, ofOne}
 use Rattle.rules.specs.FormulaTapes.{ofTwo, parts, beyond, lowestFrom, lowest, placed, outs, tapeOf}
 use Rattle.rules.specs.FormulaDepths.{clausesAt, countOf, slotsOf}
@@ -94,34 +94,51 @@ lowest-stack d =
       least = in-stack d;
     })
 
--- So the parts of a tree are placed as its clauses by depth.
+-- There a part's clause is the one by depth.
+module _ (d : ℕ) (ps : List Part) where
+  placed-number : (z : ℤ) → placed (aNumber z ∷ ps) (stack d) ≡ step 0 d 0 0 z ∷ placed ps (stack (suc d))
+  unfolding placed stack
+  placed-number z = ap (λ j. step 0 j 0 0 z ∷ placed ps (j ∷ stack d)) (lowest-stack d)
+
+  placed-axis : (a : Axis)
+      → placed (anAxis a ∷ ps) (stack d) ≡ step (axisOpcode a) d 0 0 (pos 0) ∷ placed ps (stack (suc d))
+  unfolding placed stack
+  placed-axis a = ap (λ j. step (axisOpcode a) j 0 0 (pos 0) ∷ placed ps (j ∷ stack d)) (lowest-stack d)
+
+  placed-one : (u : Unary)
+      → placed (ofOne u ∷ ps) (stack (suc d)) ≡ step (unaryOpcode u) d d 0 (pos 0) ∷ placed ps (stack (suc d))
+  unfolding placed stack
+  placed-one u = ap (λ j. step (unaryOpcode u) j d 0 (pos 0) ∷ placed ps (j ∷ stack d)) (lowest-stack d)
+
+  placed-two : (b : Binary)
+      → placed (ofTwo b ∷ ps) (stack (suc (suc d)))
+      ≡ step (binaryOpcode b) d d (suc d) (pos 0) ∷ placed ps (stack (suc d))
+  unfolding placed stack
+  placed-two b = ap (λ j. step (binaryOpcode b) j d (suc d) (pos 0) ∷ placed ps (j ∷ stack d)) (lowest-stack d)
+
+-- So a tree's are.
 pub placed-tree : (t : Tree) (d : ℕ) (ps : List Part)
     → placed (parts t ++ ps) (stack d) ≡ clausesAt d t ++ placed ps (stack (suc d))
-unfolding parts placed clausesAt stack
-placed-tree (number z) d ps = ap (λ j. step 0 j 0 0 z ∷ placed ps (j ∷ stack d)) (lowest-stack d)
-placed-tree (axis a) d ps =
-    ap (λ j. step (axisOpcode a) j 0 0 (pos 0) ∷ placed ps (j ∷ stack d)) (lowest-stack d)
+unfolding parts clausesAt
+placed-tree (number z) d ps = placed-number d ps z
+placed-tree (axis a) d ps = placed-axis d ps a
 placed-tree (unary u t) d ps =
     let c = step (unaryOpcode u) d d 0 (pos 0) in
     ap (λ qs. placed qs (stack d)) (append-assoc (parts t) (ofOne u ∷ []) ps)
     ∙ placed-tree t d (ofOne u ∷ ps)
-    ∙ ap (λ j. clausesAt d t ++ (step (unaryOpcode u) j d 0 (pos 0) ∷ placed ps (j ∷ stack d))) (lowest-stack d)
+    ∙ ap (λ cs. clausesAt d t ++ cs) (placed-one d ps u)
     ∙ sym (append-assoc (clausesAt d t) (c ∷ []) (placed ps (stack (suc d))))
 placed-tree (binary b l r) d ps =
     let c = step (binaryOpcode b) d d (suc d) (pos 0) in
     let rest = placed ps (stack (suc d)) in
-    ap (λ qs. placed qs (stack d))
-    (append-assoc (parts l) (parts r ++ (ofTwo b ∷ [])) ps
-    ∙ ap (λ qs. parts l ++ qs) (append-assoc (parts r) (ofTwo b ∷ []) ps))
-    ∙ placed-tree l d (parts r ++ (ofTwo b ∷ ps))
-    ∙ ap (λ cs. clausesAt d l ++ cs) (placed-tree r (suc d) (ofTwo b ∷ ps))
-    ∙ ap
-    (λ j. clausesAt d l
-    ++ (clausesAt (suc d) r ++ (step (binaryOpcode b) j d (suc d) (pos 0) ∷ placed ps (j ∷ stack d))))
-    (lowest-stack d)
-    ∙ sym
-    (append-assoc (clausesAt d l) (clausesAt (suc d) r ++ (c ∷ [])) rest
-    ∙ ap (λ cs. clausesAt d l ++ cs) (append-assoc (clausesAt (suc d) r) (c ∷ []) rest))
+    ap (λ qs. placed qs (stack d)) (append-assoc (parts l) (parts r ++ (ofTwo b ∷ [])) ps)
+    ∙ placed-tree l d ((parts r ++ (ofTwo b ∷ [])) ++ ps)
+    ∙ ap (λ cs. clausesAt d l ++ cs)
+    (ap (λ qs. placed qs (stack (suc d))) (append-assoc (parts r) (ofTwo b ∷ []) ps)
+    ∙ placed-tree r (suc d) (ofTwo b ∷ ps)
+    ∙ ap (λ cs. clausesAt (suc d) r ++ cs) (placed-two d ps b)
+    ∙ sym (append-assoc (clausesAt (suc d) r) (c ∷ []) rest))
+    ∙ sym (append-assoc (clausesAt d l) (clausesAt (suc d) r ++ (c ∷ [])) rest)
 
 placed-all : (t : Tree) → placed (parts t) [] ≡ clausesAt 0 t
 unfolding placed stack
@@ -151,6 +168,20 @@ slots-some (number z) = omega arith
 slots-some (axis a) = omega arith
 slots-some (unary u t) = slots-some t
 slots-some (binary b l r) = omega arith
+
+pub count-some : (t : Tree) → 1 ≤ countOf t
+unfolding countOf
+count-some (number z) = omega arith
+count-some (axis a) = omega arith
+count-some (unary u t) = omega arith
+count-some (binary b l r) = omega arith
+
+pub slots-count : (t : Tree) → slotsOf t ≤ countOf t
+unfolding slotsOf countOf
+slots-count (number z) = omega arith
+slots-count (axis a) = omega arith
+slots-count (unary u t) = omega (arith, slots-count t)
+slots-count (binary b l r) = omega (arith, slots-count l, slots-count r)
 
 pub beyond-clauses : (d : ℕ) (t : Tree) → beyond (outs (clausesAt d t)) ≡ d + slotsOf t
 unfolding clausesAt slotsOf

@@ -37,3 +37,5 @@ pub mod Demands
 pub mod Example
 pub mod Program
 pub mod FormulaSlots
+pub mod FormulaSheets
+pub mod FormulaFigures
