@@ -15,6 +15,7 @@ use Rattle.rules.specs.Trees.{Unary, Binary, Axis, Tree, number, axis, u
 use Rattle.rules.specs.FormulaTapes.{axisOpcode, unaryOpcode, binaryOpcode, step, beyond, outs, tapeOf}
 use Rattle.rules.specs.FormulaTapes.{textClauses, textSlots, fitsText}
 use Rattle.rules.specs.FormulaDepths.{clausesAt, countOf, slotsOf, Sheet, blank, five, emit, emitAll}
+use Rattle.rules.specs.FormulaDepths.{sheetOf}
 use Rattle.rules.proofs.FormulaSlots.{beyond-clauses, length-clauses, slot-rule}
 
 -- A tree's clauses one after another, by its parts.
@@ -46,6 +47,29 @@ module _ (d : ℕ) (w : Sheet) where
       let c = step (binaryOpcode b) d d (suc d) (pos 0) in
       emit-append (clausesAt d l) (clausesAt (suc d) r ++ (c ∷ [])) w
       ∙ emit-append (clausesAt (suc d) r) (c ∷ []) (emitAll (clausesAt d l) w)
+
+-- The same of trees that wait, ts among them: a number or an axis is one clause more, an operation takes the latest.
+module _ (ts : List Tree) (w : Sheet) where
+  pub sheet-number : (z : ℤ) → sheetOf (number z ∷ ts) w ≡ emit (step 0 (length ts) 0 0 z) (sheetOf ts w)
+  unfolding sheetOf
+  sheet-number z = emit-number (length ts) (sheetOf ts w) z
+
+  pub sheet-axis : (a : Axis)
+      → sheetOf (axis a ∷ ts) w ≡ emit (step (axisOpcode a) (length ts) 0 0 (pos 0)) (sheetOf ts w)
+  unfolding sheetOf
+  sheet-axis a = emit-axis (length ts) (sheetOf ts w) a
+
+  pub sheet-unary : (u : Unary) (t : Tree)
+      → sheetOf (unary u t ∷ ts) w
+      ≡ emit (step (unaryOpcode u) (length ts) (length ts) 0 (pos 0)) (sheetOf (t ∷ ts) w)
+  unfolding sheetOf
+  sheet-unary u t = emit-unary (length ts) (sheetOf ts w) u t
+
+  pub sheet-binary : (b : Binary) (l r : Tree)
+      → sheetOf (binary b l r ∷ ts) w
+      ≡ emit (step (binaryOpcode b) (length ts) (length ts) (suc (length ts)) (pos 0)) (sheetOf (r ∷ (l ∷ ts)) w)
+  unfolding sheetOf
+  sheet-binary b l r = emit-binary (length ts) (sheetOf ts w) b l r
 
 -- The counts, and the array's length.
 pub emitted-count : (cs : List Clause) (w : Sheet) → emitAll cs w .count ≡ w .count + length cs
@@ -117,8 +141,8 @@ pub record TapeOn (w : Sheet) (u : Tape) : Type 0 where
 
 -- So does a blank one, once the clauses of a tree are written on it, of the tree's tape.
 pub sheet-tape : (t : Tree) (zs : List ℤ) → 5 * textClauses ≤ length zs
-    → TapeOn (emitAll (clausesAt 0 t) (blank zs)) (tapeOf t)
-unfolding fitsText
+    → TapeOn (sheetOf (t ∷ []) (blank zs)) (tapeOf t)
+unfolding sheetOf fitsText
 sheet-tape t zs h =
     let cs = clausesAt 0 t in
     let w = emitAll cs (blank zs) in

@@ -12,8 +12,8 @@ use borrow.Author.Tests.{eqb-true, eqb-false, ltb-true, ltb-false}
 use Rattle.rules.specs.Values.{pick, Clause}
 use Rattle.rules.specs.Tapes.{Tape, isIn}
 use Rattle.rules.specs.Trees.{Unary, Binary, Axis, Tree, number, axis, unary, binary}
-use Rattle.rules.specs.FormulaTapes.{axisOpcode, unaryOpcode, binaryOpcode, step, Part, aNumber, anAxis, ofOne}
-use Rattle.rules.specs.FormulaTapes.{ofTwo, parts, beyond, lowestFrom, lowest, placed, outs, tapeOf}
+use Rattle.rules.specs.FormulaTapes.{axisOpcode, unaryOpcode, binaryOpcode, step, Part, aNumber, anAxis, ofUnary}
+use Rattle.rules.specs.FormulaTapes.{ofBinary, parts, beyond, lowestFrom, lowest, placed, outs, tapeOf}
 use Rattle.rules.specs.FormulaDepths.{clausesAt, countOf, slotsOf}
 use Rattle.rules.proofs.Needed.{in-first, in-next, in-cases, in-none, in-left, in-right}
 
@@ -70,78 +70,79 @@ lowest-one {ws} {i} {j} p q = go (eqb i j) refl
     go false e = absurd (not-less (never i j p q) (never j i q p) (eqb-false i j e))
 
 -- While d operands wait, they are in the slots below d, the latest in the highest.
-unfoldable pub stack : ℕ → List ℕ
-stack zero = []
-stack (suc d) = d ∷ stack d
+unfoldable pub slotsBelow : ℕ → List ℕ
+slotsBelow zero = []
+slotsBelow (suc d) = d ∷ slotsBelow d
 
-in-stack : (d i : ℕ) → i < d → isIn i (stack d) ≡ true
-unfolding stack
-in-stack zero i h = absurd (omega arith)
-in-stack (suc d) i h =
-    one-more (λ j. isIn j (d ∷ stack d) ≡ true) d (λ j l. in-next j d (stack d) (in-stack d j l)) (in-first d (stack d))
-    i h
+in-below : (d i : ℕ) → i < d → isIn i (slotsBelow d) ≡ true
+unfolding slotsBelow
+in-below zero i h = absurd (omega arith)
+in-below (suc d) i h =
+    one-more (λ j. isIn j (d ∷ slotsBelow d) ≡ true) d (λ j l. in-next j d (slotsBelow d) (in-below d j l))
+    (in-first d (slotsBelow d)) i h
 
-beyond-stack : (d : ℕ) → beyond (stack d) ≡ d
-unfolding stack beyond
-beyond-stack zero = refl
-beyond-stack (suc d) = omega (arith, beyond-stack d)
+beyond-below : (d : ℕ) → beyond (slotsBelow d) ≡ d
+unfolding slotsBelow beyond
+beyond-below zero = refl
+beyond-below (suc d) = omega (arith, beyond-below d)
 
-pub lowest-stack : (d : ℕ) → lowest (stack d) ≡ d
-lowest-stack d =
-    lowest-one (lowest-law (stack d))
+pub lowest-below : (d : ℕ) → lowest (slotsBelow d) ≡ d
+lowest-below d =
+    lowest-one (lowest-law (slotsBelow d))
     (record {
-      free = beyond-free d (stack d) (omega (arith, beyond-stack d)) (isIn d (stack d)) refl;
-      least = in-stack d;
+      free = beyond-free d (slotsBelow d) (omega (arith, beyond-below d)) (isIn d (slotsBelow d)) refl;
+      least = in-below d;
     })
 
 -- There a part's clause is the one by depth.
 module _ (d : ℕ) (ps : List Part) where
-  placed-number : (z : ℤ) → placed (aNumber z ∷ ps) (stack d) ≡ step 0 d 0 0 z ∷ placed ps (stack (suc d))
-  unfolding placed stack
-  placed-number z = ap (λ j. step 0 j 0 0 z ∷ placed ps (j ∷ stack d)) (lowest-stack d)
+  placed-number : (z : ℤ) → placed (aNumber z ∷ ps) (slotsBelow d) ≡ step 0 d 0 0 z ∷ placed ps (slotsBelow (suc d))
+  unfolding placed slotsBelow
+  placed-number z = ap (λ j. step 0 j 0 0 z ∷ placed ps (j ∷ slotsBelow d)) (lowest-below d)
 
   placed-axis : (a : Axis)
-      → placed (anAxis a ∷ ps) (stack d) ≡ step (axisOpcode a) d 0 0 (pos 0) ∷ placed ps (stack (suc d))
-  unfolding placed stack
-  placed-axis a = ap (λ j. step (axisOpcode a) j 0 0 (pos 0) ∷ placed ps (j ∷ stack d)) (lowest-stack d)
+      → placed (anAxis a ∷ ps) (slotsBelow d) ≡ step (axisOpcode a) d 0 0 (pos 0) ∷ placed ps (slotsBelow (suc d))
+  unfolding placed slotsBelow
+  placed-axis a = ap (λ j. step (axisOpcode a) j 0 0 (pos 0) ∷ placed ps (j ∷ slotsBelow d)) (lowest-below d)
 
-  placed-one : (u : Unary)
-      → placed (ofOne u ∷ ps) (stack (suc d)) ≡ step (unaryOpcode u) d d 0 (pos 0) ∷ placed ps (stack (suc d))
-  unfolding placed stack
-  placed-one u = ap (λ j. step (unaryOpcode u) j d 0 (pos 0) ∷ placed ps (j ∷ stack d)) (lowest-stack d)
+  placed-unary : (u : Unary)
+      → placed (ofUnary u ∷ ps) (slotsBelow (suc d))
+      ≡ step (unaryOpcode u) d d 0 (pos 0) ∷ placed ps (slotsBelow (suc d))
+  unfolding placed slotsBelow
+  placed-unary u = ap (λ j. step (unaryOpcode u) j d 0 (pos 0) ∷ placed ps (j ∷ slotsBelow d)) (lowest-below d)
 
-  placed-two : (b : Binary)
-      → placed (ofTwo b ∷ ps) (stack (suc (suc d)))
-      ≡ step (binaryOpcode b) d d (suc d) (pos 0) ∷ placed ps (stack (suc d))
-  unfolding placed stack
-  placed-two b = ap (λ j. step (binaryOpcode b) j d (suc d) (pos 0) ∷ placed ps (j ∷ stack d)) (lowest-stack d)
+  placed-binary : (b : Binary)
+      → placed (ofBinary b ∷ ps) (slotsBelow (suc (suc d)))
+      ≡ step (binaryOpcode b) d d (suc d) (pos 0) ∷ placed ps (slotsBelow (suc d))
+  unfolding placed slotsBelow
+  placed-binary b = ap (λ j. step (binaryOpcode b) j d (suc d) (pos 0) ∷ placed ps (j ∷ slotsBelow d)) (lowest-below d)
 
 -- So a tree's are.
 pub placed-tree : (t : Tree) (d : ℕ) (ps : List Part)
-    → placed (parts t ++ ps) (stack d) ≡ clausesAt d t ++ placed ps (stack (suc d))
+    → placed (parts t ++ ps) (slotsBelow d) ≡ clausesAt d t ++ placed ps (slotsBelow (suc d))
 unfolding parts clausesAt
 placed-tree (number z) d ps = placed-number d ps z
 placed-tree (axis a) d ps = placed-axis d ps a
 placed-tree (unary u t) d ps =
     let c = step (unaryOpcode u) d d 0 (pos 0) in
-    ap (λ qs. placed qs (stack d)) (append-assoc (parts t) (ofOne u ∷ []) ps)
-    ∙ placed-tree t d (ofOne u ∷ ps)
-    ∙ ap (λ cs. clausesAt d t ++ cs) (placed-one d ps u)
-    ∙ sym (append-assoc (clausesAt d t) (c ∷ []) (placed ps (stack (suc d))))
+    ap (λ qs. placed qs (slotsBelow d)) (append-assoc (parts t) (ofUnary u ∷ []) ps)
+    ∙ placed-tree t d (ofUnary u ∷ ps)
+    ∙ ap (λ cs. clausesAt d t ++ cs) (placed-unary d ps u)
+    ∙ sym (append-assoc (clausesAt d t) (c ∷ []) (placed ps (slotsBelow (suc d))))
 placed-tree (binary b l r) d ps =
     let c = step (binaryOpcode b) d d (suc d) (pos 0) in
-    let rest = placed ps (stack (suc d)) in
-    ap (λ qs. placed qs (stack d)) (append-assoc (parts l) (parts r ++ (ofTwo b ∷ [])) ps)
-    ∙ placed-tree l d ((parts r ++ (ofTwo b ∷ [])) ++ ps)
+    let rest = placed ps (slotsBelow (suc d)) in
+    ap (λ qs. placed qs (slotsBelow d)) (append-assoc (parts l) (parts r ++ (ofBinary b ∷ [])) ps)
+    ∙ placed-tree l d ((parts r ++ (ofBinary b ∷ [])) ++ ps)
     ∙ ap (λ cs. clausesAt d l ++ cs)
-    (ap (λ qs. placed qs (stack (suc d))) (append-assoc (parts r) (ofTwo b ∷ []) ps)
-    ∙ placed-tree r (suc d) (ofTwo b ∷ ps)
-    ∙ ap (λ cs. clausesAt (suc d) r ++ cs) (placed-two d ps b)
+    (ap (λ qs. placed qs (slotsBelow (suc d))) (append-assoc (parts r) (ofBinary b ∷ []) ps)
+    ∙ placed-tree r (suc d) (ofBinary b ∷ ps)
+    ∙ ap (λ cs. clausesAt (suc d) r ++ cs) (placed-binary d ps b)
     ∙ sym (append-assoc (clausesAt (suc d) r) (c ∷ []) rest))
     ∙ sym (append-assoc (clausesAt d l) (clausesAt (suc d) r ++ (c ∷ [])) rest)
 
 placed-all : (t : Tree) → placed (parts t) [] ≡ clausesAt 0 t
-unfolding placed stack
+unfolding placed slotsBelow
 placed-all t =
     ap (λ ps. placed ps []) (sym (append-nil (parts t))) ∙ placed-tree t 0 [] ∙ append-nil (clausesAt 0 t)
 

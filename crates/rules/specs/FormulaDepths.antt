@@ -5,6 +5,7 @@ use mathlib.Core.List.{List, [], _∷_, _++_}
 use lib.IntN.{ℤ, pos}
 use Prim.Native.Nat.{ℕ, suc, _+_, _*_, max}
 use lib.Dec.{ltb}
+use lib.ListN.{length}
 use lib.Seq.{sets}
 use Rattle.rules.specs.Values.{pick, Clause}
 use Rattle.rules.specs.Trees.{Tree, number, axis, unary, binary}
@@ -55,3 +56,8 @@ emit c w =
 unfoldable pub emitAll : List Clause → Sheet → Sheet
 emitAll [] w = w
 emitAll (c ∷ cs) w = emitAll cs (emit c w)
+
+-- The sheet once the trees ts were read, the latest first, and wait: each was written while those before it waited.
+unfoldable pub sheetOf : List Tree → Sheet → Sheet
+sheetOf [] w = w
+sheetOf (t ∷ ts) w = emitAll (clausesAt (length ts) t) (sheetOf ts w)

@@ -37,14 +37,14 @@ step o d l r z = record { opcode = o; out = d; left = l; right = r; constant = z
 pub data Part : Type 0 where
   aNumber : ℤ → Part
   anAxis : Axis → Part
-  ofOne : Unary → Part
-  ofTwo : Binary → Part
+  ofUnary : Unary → Part
+  ofBinary : Binary → Part
 
 unfoldable pub parts : Tree → List Part
 parts (number z) = aNumber z ∷ []
 parts (axis a) = anAxis a ∷ []
-parts (unary u t) = parts t ++ (ofOne u ∷ [])
-parts (binary b l r) = parts l ++ (parts r ++ (ofTwo b ∷ []))
+parts (unary u t) = parts t ++ (ofUnary u ∷ [])
+parts (binary b l r) = parts l ++ (parts r ++ (ofBinary b ∷ []))
 
 -- One more than the greatest of some slots.
 unfoldable pub beyond : List ℕ → ℕ
@@ -66,11 +66,11 @@ unfoldable pub placed : List Part → List ℕ → List Clause
 placed [] ws = []
 placed (aNumber z ∷ ps) ws = step 0 (lowest ws) 0 0 z ∷ placed ps (lowest ws ∷ ws)
 placed (anAxis a ∷ ps) ws = step (axisOpcode a) (lowest ws) 0 0 (pos 0) ∷ placed ps (lowest ws ∷ ws)
-placed (ofOne u ∷ ps) [] = []
-placed (ofOne u ∷ ps) (i ∷ ws) = step (unaryOpcode u) (lowest ws) i 0 (pos 0) ∷ placed ps (lowest ws ∷ ws)
-placed (ofTwo b ∷ ps) [] = []
-placed (ofTwo b ∷ ps) (j ∷ []) = []
-placed (ofTwo b ∷ ps) (j ∷ (i ∷ ws)) = step (binaryOpcode b) (lowest ws) i j (pos 0) ∷ placed ps (lowest ws ∷ ws)
+placed (ofUnary u ∷ ps) [] = []
+placed (ofUnary u ∷ ps) (i ∷ ws) = step (unaryOpcode u) (lowest ws) i 0 (pos 0) ∷ placed ps (lowest ws ∷ ws)
+placed (ofBinary b ∷ ps) [] = []
+placed (ofBinary b ∷ ps) (j ∷ []) = []
+placed (ofBinary b ∷ ps) (j ∷ (i ∷ ws)) = step (binaryOpcode b) (lowest ws) i j (pos 0) ∷ placed ps (lowest ws ∷ ws)
 
 -- "the head counts the slots used".
 abbrev pub outs : List Clause → List ℕ
