@@ -38,4 +38,6 @@ pub mod Example
 pub mod Program
 pub mod FormulaSlots
 pub mod FormulaSheets
+pub mod FormulaValues
+pub mod FormulaAccepted
 pub mod FormulaFigures
