@@ -47,3 +47,8 @@ pub mod FormulaSteps
 pub mod FormulaCalls
 pub mod FormulaItems
 pub mod FormulaTexts
+pub mod FormulaSlots
+pub mod FormulaSheets
+pub mod FormulaValues
+pub mod FormulaAccepted
+pub mod FormulaFigures

@@ -1,6 +1,6 @@
 -- What must hold, to be read against the scope paper: fixed-point values and ranges, tapes and what makes one accepted,
--- drawings, pictures and their files, the program, and the demands; what a formula means, its
--- text and the text's reader.
+-- drawings, pictures and their files, the program, and the demands; what a formula means, its tape, its text and the
+-- text's reader.
 pub mod Values
 pub mod Tapes
 pub mod Accepted
@@ -12,3 +12,5 @@ pub mod Trees
 pub mod Formulas
 pub mod FormulaReader
 pub mod FormulaCalls
+pub mod FormulaTapes
+pub mod FormulaDepths
