@@ -55,8 +55,9 @@ pub fn look(
     requires { ⌜ c .x % 8 ≡ 0 ⌝ }
     requires { ⌜ (length (now whole) ≤ base) × (base + markRoom (length (now whole)) ≤ length (now work)) ⌝ }
     requires { ⌜ (length (now whole) ≤ length (now next)) × (length (now nextplaces) ≡ length (now next)) ⌝ }
-    ensures { λ r. ⌜ Looked false (now (whole .entry)) (now (code .entry)) grid (regionIn c)
-        (now (picture .entry)) (now (picture .exit)) (now (next .exit)) (now (nextplaces .exit)) r ⌝ }
+    ensures { λ r. ⌜ Looked false (now (whole .entry)) (now (code .entry)) (now (places .entry)) grid (regionIn c)
+        (now (picture .entry)) (now (picture .exit)) (now (work .exit)) (now (next .exit))
+        (now (nextplaces .exit)) r ⌝ }
 {
     let range = run_ranges(code, flat_bounds(grid, c), work);
     match verdict_on(range) {

@@ -34,8 +34,9 @@ pub fn look(
     requires { ⌜ CellOk (grid .depth) grid c ⌝ }
     requires { ⌜ (length (now whole) ≤ base) × (base + markRoom (length (now whole)) ≤ length (now work)) ⌝ }
     requires { ⌜ (length (now whole) ≤ length (now next)) × (length (now nextplaces) ≡ length (now next)) ⌝ }
-    ensures { λ r. ⌜ Looked true (now (whole .entry)) (now (code .entry)) grid (regionIn c)
-        (now (picture .entry)) (now (picture .exit)) (now (next .exit)) (now (nextplaces .exit)) r ⌝ }
+    ensures { λ r. ⌜ Looked true (now (whole .entry)) (now (code .entry)) (now (places .entry)) grid (regionIn c)
+        (now (picture .entry)) (now (picture .exit)) (now (work .exit)) (now (next .exit))
+        (now (nextplaces .exit)) r ⌝ }
 {
     if is_hidden(grid, c, picture) {
         return Seen::Done(0);

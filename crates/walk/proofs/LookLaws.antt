@@ -98,8 +98,8 @@ module _ (isSolid : Bool) {ws : List ℕ} {grid : Grid} {c : Cell} {b hs hs′ :
         bound = omega arith;
       }
 
-  pub opened : {whole hs″ next ps : List ℕ} {base start : ℕ} → IsMixed x → Cut whole ws hs′ base hs″ next ps start
-      → Opened isSolid whole ws grid (regionIn c) b b next ps start
+  pub opened : {whole qs hs″ next ps : List ℕ} {base start : ℕ} → IsMixed x → Cut whole ws qs hs′ base hs″ next ps start
+      → Opened isSolid whole ws qs grid (regionIn c) b b hs″ next ps start
   opened j s =
       record {
         same = refl;
@@ -109,17 +109,20 @@ module _ (isSolid : Bool) {ws : List ℕ} {grid : Grid} {c : Cell} {b hs hs′ :
           start = s .within;
           short = λ n a. short-tape n _ (over-region .choices n a) s;
         };
-        kept = cut-kept s;
+        base = _;
+        choices = hs′;
+        by-cut = s;
       }
 
 -- What the look says, once it is known whether the region is done.
-module _ (isSolid : Bool) (whole ws : List ℕ) (grid : Grid) (r : Region) (b b′ next ps : List ℕ) {v : Seen}
-    (j : Looked isSolid whole ws grid r b b′ next ps v) where
+module _ (isSolid : Bool) (whole ws qs : List ℕ) (grid : Grid) (r : Region) (b b′ work next ps : List ℕ)
+    {v : Seen}
+    (j : Looked isSolid whole ws qs grid r b b′ work next ps v) where
   pub done-of : {c : ℕ} → v ≡ Done c → Finished isSolid ws grid r b b′ c
-  done-of e = subst (λ u. Looked isSolid whole ws grid r b b′ next ps u) e j
+  done-of e = subst (λ u. Looked isSolid whole ws qs grid r b b′ work next ps u) e j
 
-  pub open-of : {m : ℕ} → v ≡ Open m → Opened isSolid whole ws grid r b b′ next ps m
-  open-of e = subst (λ u. Looked isSolid whole ws grid r b b′ next ps u) e j
+  pub open-of : {m : ℕ} → v ≡ Open m → Opened isSolid whole ws qs grid r b b′ work next ps m
+  open-of e = subst (λ u. Looked isSolid whole ws qs grid r b b′ work next ps u) e j
 
 -- Done without its children: at most one run is counted.
 pub done-visits : {isSolid : Bool} {ws : List ℕ} {grid : Grid} {q r : Region} {b b′ : List ℕ} {c : ℕ} (k n : ℕ)
@@ -135,9 +138,9 @@ lent-words start next = take-all (length next - start) (drop start next) (rw len
 
 -- After a cut: the short words are sound and no more than the region's, and visiting the children with them is the rest
 -- of the visit. If at most k runs are counted of the children, at most k + 1 are of the region.
-module _ {isSolid : Bool} {whole ws : List ℕ} {grid : Grid} {q : Region} {b b₁ next ps : List ℕ} {start : ℕ}
-    (s : Sound ws)
-    (o : Opened isSolid whole ws grid q b b₁ next ps start) where
+module _ {isSolid : Bool} {whole ws qs : List ℕ} {grid : Grid} {q : Region} {b b₁ work next ps : List ℕ}
+    {start : ℕ} (s : Sound ws)
+    (o : Opened isSolid whole ws qs grid q b b₁ work next ps start) where
   short-again : (n : ℕ) → Accepted (tapeIn n ws) → Accepted (tapeIn n (drop start next))
   short-again n a =
       subst Accepted (sym (o .cut .short n (fit-of a))) (short-accepted (tapeIn n ws) a (boxOf (gridIn grid isSolid) q))
@@ -147,7 +150,7 @@ module _ {isSolid : Bool} {whole ws : List ℕ} {grid : Grid} {q : Region} {b b�
       rw (lent-words start next) (record { slots = s .slots; accepted = short-again (s .slots) (s .accepted) })
 
   pub open-level : Level whole (take (length next - start) (drop start next)) (take (length ps - start) (drop start ps))
-  open-level = record { sound = open-sound; kept = rw (lent-words start next, lent-words start ps) (o .kept) }
+  open-level = record { sound = open-sound; kept = rw (lent-words start next, lent-words start ps) (cut-kept (o .by-cut)) }
 
   short-fewer : length (drop start next) ≤ length ws
   short-fewer =
@@ -186,11 +189,12 @@ module _ {isSolid : Bool} {whole ws : List ℕ} {grid : Grid} {q : Region} {b b�
   open-visits n ns k e h f = rw (← e) (cut-visits n ns k h (rw (lent-words start next) at f))
 
 -- The same of a cell whose children are l layers, or l rows, of side n.
-module _ {whole ws : List ℕ} {grid : Grid} {cell : Cell} {r : Region} {b b₁ next ps : List ℕ} {start : ℕ} (n l : ℕ)
+module _ {whole ws qs : List ℕ} {grid : Grid} {cell : Cell} {r : Region} {b b₁ work next ps : List ℕ} {start : ℕ}
+    (n l : ℕ)
     (s : Sound ws)
     (some : 1 ≤ n) (some-part : 1 ≤ l) (parts : r .long ≡ l * n) where
   pub open-layers : CellOf (grid .depth) grid r cell → gridFault true (gridIn grid true) ≡ 0
-      → Opened true whole ws grid (regionIn cell) b b₁ next ps start → (ns : List ℕ) (k : ℕ) {c : ℕ} {b′ : List ℕ}
+      → Opened true whole ws qs grid (regionIn cell) b b₁ work next ps start → (ns : List ℕ) (k : ℕ) {c : ℕ} {b′ : List ℕ}
       → Folds true k (take (length next - start) (drop start next)) grid ns
       (alongZ l l (cell .x) (cell .y) (cell .z) n (cell .xend) (cell .yend) (cell .zend)) b₁ b′ c
       → Visits true (suc k) ws grid (n ∷ ns) r b b′ (length ws + c)
@@ -198,7 +202,7 @@ module _ {whole ws : List ℕ} {grid : Grid} {cell : Cell} {r : Region} {b b₁ 
       open-visits s o n ns k (d .same)
       (cell-layers grid cell n l some some-part (ap (λ (q : Region). q .long) (d .same) ∙ parts) (d .ok) e) f
 
-  pub open-rows : CellOf 1 grid r cell → Opened false whole ws grid (regionIn cell) b b₁ next ps start → (ns : List ℕ) (k : ℕ)
+  pub open-rows : CellOf 1 grid r cell → Opened false whole ws qs grid (regionIn cell) b b₁ work next ps start → (ns : List ℕ) (k : ℕ)
       {c : ℕ} {b′ : List ℕ}
       → Folds false k (take (length next - start) (drop start next)) grid ns
       (alongY l l (cell .x) (cell .y) 0 n (cell .xend) (cell .yend)) b₁ b′ c

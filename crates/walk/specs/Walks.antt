@@ -4,12 +4,12 @@ use mathlib.Core.Path.{_≡_}
 use mathlib.Core.Bool.{Bool, true, false}
 use mathlib.Core.List.{List, _∷_}
 use Prim.Native.Nat.{ℕ, _+_, _*_, _≤_}
-use lib.ListN.{length, drop}
+use lib.ListN.{length}
 use Rattle.rules.specs.Drawings.{Region, boxOf, fold, visit, walked}
 use Rattle.rules.specs.Pictures.{picture}
 use Rattle.rules.specs.Accepted.{Accepted}
 use Rattle.code.specs.Words.{tapeIn}
-use Rattle.shortening.specs.Kept.{Kept, markRoom}
+use Rattle.shortening.specs.Kept.{Kept, Cut, markRoom}
 use Rattle.picture.specs.Bits.{Shows}
 use Rattle.picture.specs.Shapes.{gridIn}
 use Rattle.picture.specs.declared.grid.Grid.{Grid}
@@ -58,17 +58,21 @@ pub record Finished (isSolid : Bool) (ws : List ℕ) (grid : Grid) (r : Region) 
   pub bound : c ≤ length ws
 
 -- A region that is seen and cut, before its children; the words from start on are its short tape's, and their places
--- beside them.
-pub record Opened (isSolid : Bool) (whole ws : List ℕ) (grid : Grid) (r : Region) (b b′ next places : List ℕ)
-    (start : ℕ) : Type 0 where
+-- beside them. The short tape is kept as marks in the work buffer, from some base on: `by-cut` has their bytes.
+pub record Opened (isSolid : Bool) (whole ws qs : List ℕ) (grid : Grid) (r : Region)
+    (b b′ work next places : List ℕ) (start : ℕ) : Type 0 where
   pub same : b′ ≡ b
   pub seen : Hidden (Shown isSolid grid) (gridIn grid isSolid) r b false
   pub cut : IsCut ws (boxOf (gridIn grid isSolid) r) next start
-  pub kept : Kept whole (drop start next) (drop start places)
+  pub base : ℕ
+  pub choices : List ℕ
+  pub by-cut : Cut whole ws qs choices base work next places start
 
-abbrev pub Looked : Bool → List ℕ → List ℕ → Grid → Region → List ℕ → List ℕ → List ℕ → List ℕ → Seen → Type 0
-Looked isSolid whole ws grid r b b′ next places (Done c) = Finished isSolid ws grid r b b′ c
-Looked isSolid whole ws grid r b b′ next places (Open start) = Opened isSolid whole ws grid r b b′ next places start
+abbrev pub Looked : Bool → List ℕ → List ℕ → List ℕ → Grid → Region → List ℕ → List ℕ → List ℕ → List ℕ → List ℕ → Seen
+    → Type 0
+Looked isSolid whole ws qs grid r b b′ work next places (Done c) = Finished isSolid ws grid r b b′ c
+Looked isSolid whole ws qs grid r b b′ work next places (Open start) =
+    Opened isSolid whole ws qs grid r b b′ work next places start
 
 -- The whole drawing.
 pub record Walked (isSolid : Bool) (ws : List ℕ) (grid : Grid) (b : List ℕ) (c : ℕ) : Type 0 where

@@ -51,9 +51,10 @@ begins c = omega (arith, ap (λ (q : Region). q .i) (made c .same), start c .pre
 opened : (c : tie.After-known-told2)
     → let j = looked c in
     let a = start (with-cell j) .args in
-    Opened false (a .whole .now) (a .code .now) (a .grid) (regionIn (with-cell j .cell-at .result)) (a .picture .now)
-    (j .look .last .1 .1 .1 .1 .1 .0) (j .look .last .1 .1 .1 .1 .1 .1 .1 .1 .0) (j .look .last .1 .1 .1 .1 .1 .1 .1 .1 .1 .0) (c .before .seen2 .given .0 .0)
-opened c = open-of false _ _ _ _ _ _ _ _ (looked c .look .ensures) (c .before .seen2 .given .1)
+    Opened false (a .whole .now) (a .code .now) (a .places .now) (a .grid) (regionIn (with-cell j .cell-at .result)) (a .picture .now)
+    (j .look .last .1 .1 .1 .1 .1 .0) (j .look .last .1 .1 .1 .1 .1 .1 .0) (j .look .last .1 .1 .1 .1 .1 .1 .1 .1 .0)
+    (j .look .last .1 .1 .1 .1 .1 .1 .1 .1 .1 .0) (c .before .seen2 .given .0 .0)
+opened c = open-of false _ _ _ _ _ _ _ _ _ _ (looked c .look .ensures) (c .before .seen2 .given .1)
 
 cell-at-requires : tie.Need-cell-at-requires
 cell-at-requires c κs =
@@ -132,7 +133,7 @@ returns : tie.Need-returns
 returns c =
     let j = done c in
     done-visits 65 1 [] (made (with-cell j) .same) (omega arith)
-    (done-of false _ _ _ _ _ _ _ _ (j .look .ensures) (c .before .seen .given .1))
+    (done-of false _ _ _ _ _ _ _ _ _ _ (j .look .ensures) (c .before .seen .given .1))
 
 same-length-4 : tie.Need-same-length-4
 same-length-4 c = search needs

@@ -51,9 +51,9 @@ opened : (c : tie.After-known-told2)
     → let j = looked c in
     let a = start j .args in
     let now = j .look .last .1 .1 .1 .1 .1 in
-    Opened true (a .whole .now) (a .code .now) (a .grid) (regionIn (with-cell j .cell-at .result)) (a .picture .now)
-    (now .0) (now .1 .1 .1 .0) (now .1 .1 .1 .1 .0) (c .before .seen2 .given .0 .0)
-opened c = open-of true _ _ _ _ _ _ _ _ (looked c .look .ensures) (c .before .seen2 .given .1)
+    Opened true (a .whole .now) (a .code .now) (a .places .now) (a .grid) (regionIn (with-cell j .cell-at .result)) (a .picture .now)
+    (now .0) (now .1 .0) (now .1 .1 .1 .0) (now .1 .1 .1 .1 .0) (c .before .seen2 .given .0 .0)
+opened c = open-of true _ _ _ _ _ _ _ _ _ _ (looked c .look .ensures) (c .before .seen2 .given .1)
 
 cell-at-requires : tie.Need-cell-at-requires
 cell-at-requires c κs =
@@ -135,7 +135,7 @@ returns : tie.Need-returns
 returns c =
     let j = done c in
     done-visits 65 1 [] (made j .same) (omega arith)
-    (done-of true _ _ _ _ _ _ _ _ (j .look .ensures) (c .before .seen .given .1))
+    (done-of true _ _ _ _ _ _ _ _ _ _ (j .look .ensures) (c .before .seen .given .1))
 
 same-length-4 : tie.Need-same-length-4
 same-length-4 c = search needs
