@@ -6,6 +6,7 @@ use lib.IntN.{ℤ, pos}
 use Prim.Native.Nat.{ℕ, zero, suc}
 use lib.ListN.{length}
 use Rattle.rules.specs.Values.{pick}
+use Rattle.rules.specs.Tapes.{edition}
 use Rattle.rules.specs.Tapes.{Tape, isIn, clauseBytes, tapeBytes}
 use Rattle.rules.specs.Trees.{negate, add, multiply, divide, maximum, axisX, axisY, axisZ, Tree, number}
 use Rattle.rules.specs.Trees.{axis, unary, binary}
@@ -70,5 +71,5 @@ rows =
     ∷ []))))))
 
 pub figures : map (λ r. r .given) rows ≡ map (λ r. r .said) rows
-unfolding clauseBytes tapeBytes isIn parts beyond lowestFrom lowest placed tapeOf fitsText
+unfolding clauseBytes tapeBytes isIn parts beyond lowestFrom lowest placed tapeOf fitsText edition
 figures = refl

@@ -1,7 +1,6 @@
 -- What must hold, to be read against the scope paper: fixed-point values and ranges, tapes and what makes one accepted,
--- drawings, slopes, pictures and their files, probes, the program, and the demands.
--- drawings, pictures and their files, the program, and the demands; what a formula means, its tape, its text and the
--- text's reader.
+-- drawings, slopes, pictures and their files, probes, the program, and the demands; what a formula means, its tape, its
+-- text and the text's reader.
 pub mod Values
 pub mod Tapes
 pub mod Marks
