@@ -1,0 +1,6 @@
+-- Laws that the proofs of this crate cite.
+pub mod Bytes
+pub mod JoinLaws
+pub mod Numbers
+pub mod Names
+pub mod Sheets
