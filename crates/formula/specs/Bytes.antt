@@ -12,7 +12,7 @@ use Rattle.formula.specs.declared.digits.Run.{Run}
 unfoldable pub byteAt : List ℕ → ℕ → ℕ
 byteAt text n = pick (ltb n (length text)) (getD text n 0) 256
 
--- Run from place n up to place j, at most some of them and with values at most top: their value and how many.
+-- Digits from place n up to place j, at most some of them and with values at most top: their value and how many.
 pub data Ran (text : List ℕ) (n most top : ℕ) : ℕ → ℕ → ℕ → Type 0 where
   none : Ran text n most top n 0 0
   next : (j v k : ℕ) → Ran text n most top j v k → j < length text → isDigit (getD text j 0) ≡ true → suc k ≤ most

@@ -19,7 +19,7 @@ const POINT: u32 = 46;
 
 const UNIT: u32 = 65536;
 
-// Run that were read: where they end, their value and how many they are.
+// Digits that were read: where they end, their value and how many they are.
 pub struct Run {
     pub at: usize,
     pub value: u32,

@@ -46,7 +46,8 @@ returns c =
     let a = s .args in
     rw (lt-ltb _ _ (h .if1 .taken))
     (c .before .put-numbers .ensures
-    ∙ ap (sets (a .list .now) (5 * a .count)) (numbers-stored (a .list .now) (a .count) (a .c) (s .pre) (h .if1 .taken)))
+    ∙ ap (sets (a .list .now) (5 * a .count))
+    (numbers-stored (a .list .now) (a .count) (a .c) (s .pre) (h .if1 .taken)))
 
 returns-2 : tie.Need-returns-2
 returns-2 c = rw (le-ltb _ _ (c .if1 .left)) refl
