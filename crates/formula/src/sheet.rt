@@ -1,5 +1,5 @@
 // The sheet: clauses in list form, written from the front while there is room, and counted in any case.
-use tape::CLAUSE_LIMIT;
+use tape::FIRST_CLAUSES;
 use tape::CLAUSE_NUMBERS;
 use tape::Fields;
 use tape::list::put_numbers;
@@ -33,7 +33,7 @@ fn store(list: &mut [i32], count: usize, c: Clause)
     ensures { λ _. ⌜ now (list .exit) ≡ pick (ltb count textClauses)
         (sets (now (list .entry)) (5 * count) (five (clauseOf c))) (now (list .entry)) ⌝ }
 {
-    if count < CLAUSE_LIMIT {
+    if count < FIRST_CLAUSES {
         let f = Fields {
             opcode: c.opcode as i32,
             out: c.out as i32,
