@@ -1,6 +1,6 @@
 // The sheet: clauses in list form, written from the front while there is room, and counted in any case.
-use tape::FIRST_CLAUSES;
 use tape::CLAUSE_NUMBERS;
+use tape::FIRST_CLAUSES;
 use tape::Fields;
 use tape::list::put_numbers;
 ghost use mathlib.Core.Path.{_≡_};
