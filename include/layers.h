@@ -23,7 +23,7 @@
  *    2 head mark, edition or spare bytes wrong
  *    3 slot or clause count out of range
  *    4 tape length not 8 + 10*clauses; list length not a multiple of 5
- *    5 clause mark wrong, or opcode not 0 to 13
+ *    5 clause mark wrong, or opcode not 0 to 14
  *    6 a used slot field below 0, or not below the slot count
  *    7 an unused field not 0
  *    8 a used constant of -2,147,483,648

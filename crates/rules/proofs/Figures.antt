@@ -6,12 +6,13 @@ use mathlib.Core.List.{List, [], _∷_, _++_, map}
 use lib.IntN.{ℤ, pos, negℤ}
 use Prim.Native.Nat.{ℕ}
 use Rattle.rules.specs.Values.{smaller, larger, sum, difference, product, square, rootFrom, rootOf, Clause, Range}
-use Rattle.rules.specs.Values.{quotient, quotientR}
+use Rattle.rules.specs.Values.{quotient, quotientR, Sample, binaryValue, valueOf}
 use Rattle.rules.specs.Values.{range, Box, holdsZero, absoluteR, squareR, rootR, productR, sumR, differenceR}
 use Rattle.rules.specs.Values.{negR, smallerR, largerR, unaryRange, binaryRange, rangeOf, sideBelow, sideAbove}
 use Rattle.rules.specs.Values.{multipliedR, choiceOf}
 use Rattle.rules.specs.Tapes.{Tape, noRange, choicesFrom, reads, isIn, without, onClause, shortFrom, lastOut}
-use Rattle.rules.specs.Tapes.{rangeFrom, rangeOver, shortened, listOf}
+use Rattle.rules.specs.Tapes.{rangeFrom, rangeOver, shortened, listOf, Raw, badSlot, badUnused, badConstant}
+use Rattle.rules.specs.Tapes.{badRead, clauseFault}
 use Rattle.rules.specs.Drawings.{Grid, at, sampleAt, gridFault}
 
 -- A row of numbers: a range is its two ends, a tape is its list.
@@ -159,8 +160,8 @@ oneSlot =
     ∷ (interval (rangeOver (inOneSlot 9) (onX (minus 196608) (pos 327680))) (minus 393216) (pos 655360)
     ∷ [])))
 
--- Quotients: rounded down whatever the signs, by 0, clamped; over ranges, with a divisor on either side of 0, up to it
--- and from it.
+-- Request T-06: quotients rounded down whatever the signs, by 0, clamped; over ranges, with a divisor on either side of
+-- 0, up to it and from it.
 abbrev pub quotients : List Row
 quotients =
     number (quotient (minus 1) (pos 196608)) (minus 1)
@@ -180,12 +181,35 @@ quotients =
     ∷ (interval (quotientR (range (minus 3) (pos 5)) (range (minus 5) (pos 0))) (minus 2147483647) (pos 2147483647)
     ∷ [])))))))))))))
 
+-- As clauses: the left slot by the right one, one slot by itself as any two, never a choice; 14 is the last opcode.
+abbrev pub divides : ℕ → ℕ → Clause
+divides l r = clause 14 0 l r (pos 0)
+
+abbrev pub nowhere : Sample
+nowhere = record { x = pos 0; y = pos 0; z = pos 0 }
+
+abbrev pub faultOf : ℕ → ℕ
+faultOf o = clauseFault 2 (0 ∷ (1 ∷ []))
+    (record { opcode = pos o; out = pos 0; left = pos 0; right = pos 1; constant = pos 0 })
+
+abbrev pub dividing : List Row
+dividing =
+    number (valueOf (divides 0 1) nowhere (pos 655360) (pos 196608)) (pos 218453)
+    ∷ (interval (rangeOf (divides 0 1) (onX (pos 0) (pos 0)) (range (minus 3) (pos 5)) (range (pos 2) (pos 7)))
+    (minus 98304) (pos 163840)
+    ∷ (interval (rangeOf (divides 1 1) (onX (pos 0) (pos 0)) (range (pos 2) (pos 4)) (range (pos 2) (pos 4)))
+    (pos 32768) (pos 131072)
+    ∷ (choice (choiceOf 14 (range (pos 0) (pos 4)) (range (pos 5) (pos 9))) 0
+    ∷ (choice (faultOf 14) 0
+    ∷ (choice (faultOf 15) 5
+    ∷ [])))))
+
 abbrev pub rows : List Row
-rows = starred ++ worded ++ oneSlot ++ middles ++ quotients
+rows = starred ++ worded ++ oneSlot ++ middles ++ quotients ++ dividing
 
 pub figures : map (λ r. r .given) rows ≡ map (λ r. r .said) rows
 unfolding smaller larger sum difference product square rootFrom rootOf quotient quotientR holdsZero absoluteR squareR
     rootR productR sumR differenceR negR smallerR largerR unaryRange multipliedR binaryRange rangeOf rangeFrom rangeOver
     sideBelow sideAbove choiceOf choicesFrom reads isIn without onClause shortFrom lastOut shortened listOf sampleAt
-    gridFault
+    gridFault binaryValue valueOf badSlot badUnused badConstant badRead clauseFault
 figures = refl

@@ -1,7 +1,6 @@
 -- Quotients: each is rounded down, is a value, and lies in the range of its operands' ranges. A divisor below 0 is one
 -- above 0 with both signs changed. By one above 0 a quotient rises with the dividend; with the divisor it falls where
--- the
--- dividend is above 0, and rises where it is below.
+-- the dividend is above 0, and rises where it is below.
 use mathlib.Core.Path.{_≡_, refl}
 use mathlib.Core.Bool.{Bool, true, false, true≢false}
 use lib.IntN.{ℤ, pos, negsuc, negℤ, _+ℤ_, _*ℤ_}

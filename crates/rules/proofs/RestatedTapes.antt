@@ -1,7 +1,8 @@
 -- Tapes as the paper of formal statements has them, word for word, and each equal to the definition used here. Where
 -- text and parts are the same nothing is repeated: `isIn`, `lastOut`, the tests and records of a clause, `rawsFrom`,
--- `rawsOf`, `listOf`. Runs over ranges and what rests on them are no longer the paper's own, and not here.
-use mathlib.Core.Path.{_≡_, refl, sym, ap, ap₂, subst₃, _∙_}
+-- `rawsOf`, `listOf`. One test is no longer the paper's own: `isOpcode` takes opcode 14 too, and what is read here is
+-- read with it. Runs, on values and over ranges, and what rests on them are not the paper's own either, and not here.
+use mathlib.Core.Path.{_≡_, refl, sym, ap, subst₃, _∙_}
 use mathlib.Core.Bool.{Bool, true, false, _&&_, _||_, not}
 use mathlib.Core.List.{List, [], _∷_, _++_, map, append-nil, append-assoc}
 use lib.IntN.{ℤ, pos}
@@ -10,13 +11,11 @@ use native.Mathlib.Omega.{arith}
 use lib.Dec.{eqb, ltb, leb}
 use lib.ListN.{length, getD, set, drop, replicate}
 use borrow.Author.Tests.{leb-true, leb-false, le-leb, lt-leb}
-use Rattle.rules.specs.Values
 use Rattle.rules.specs.Tapes
-use Rattle.rules.specs.Values.{pick, firstOf, when, isNeg, Clause, Sample, Range}
+use Rattle.rules.specs.Values.{pick, firstOf, when, Clause, Range}
 use Rattle.rules.specs.Tapes.{Tape, noRange, isIn, Kept, kept, copyOf, Raw, isSlot, isZero, isOpcode}
 use Rattle.rules.specs.Tapes.{nat, leastWord, usesLeft, usesRight, clauseOf, Got, bad, good, word, rawsFrom}
 use Rattle.rules.specs.Tapes.{headOk, rawsOf, two, clauseBytes, listOf, allBytes, allIn32}
-use Rattle.rules.proofs.RestatedValues.{valueOf, value-same}
 use Rattle.rules.proofs.Reading.{fault-here, fault-after}
 use Rattle.rules.proofs.Bytes.{both-ways}
 
@@ -56,40 +55,6 @@ zeros (suc n) = pos 0 ∷ zeros n
 pub zeros-same : (n : ℕ) → zeros n ≡ replicate n (pos 0)
 zeros-same zero = refl
 zeros-same (suc n) = ap (λ (l : List ℤ). pos 0 ∷ l) (zeros-same n)
-
--- A run on a sample: the slot written by the last clause.
-abbrev pub runFrom : List Clause → Sample → List ℤ → ℤ → ℤ
-runFrom [] s vs last = last
-runFrom (c ∷ cs) s vs last =
-    let v = valueOf (c .opcode) (c .constant) s (nthZ vs (c .left)) (nthZ vs (c .right)) in
-    runFrom cs s (putZ vs (c .out) v) v
-
-pub run-same : (cs : List Clause) (s : Sample) (vs : List ℤ) (last : ℤ)
-    → runFrom cs s vs last ≡ Tapes.runFrom cs s vs last
-unfolding Tapes.runFrom
-run-same [] s vs last = refl
-run-same (c ∷ cs) s vs last =
-    let a = nthZ vs (c .left) in
-    let b = nthZ vs (c .right) in
-    let v = valueOf (c .opcode) (c .constant) s a b in
-    let w = Values.valueOf c s (getD vs (c .left) (pos 0)) (getD vs (c .right) (pos 0)) in
-    let e : v ≡ w = value-same c s a b ∙ ap₂ (Values.valueOf c s) (nth-same vs (c .left)) (nth-same vs (c .right)) in
-    run-same cs s (putZ vs (c .out) v) v
-    ∙ ap₂ (Tapes.runFrom cs s) (put-same vs (c .out) v ∙ ap (set vs (c .out)) e) e
-
-abbrev pub valueAt : Tape → Sample → ℤ
-valueAt t s = runFrom (t .clauses) s (zeros (t .slots)) (pos 0)
-
-pub value-at-same : (t : Tape) (s : Sample) → valueAt t s ≡ Tapes.valueAt t s
-unfolding Tapes.valueAt
-value-at-same t s = rw (zeros-same (t .slots)) (run-same (t .clauses) s (replicate (t .slots) (pos 0)) (pos 0))
-
-abbrev pub material : Tape → Sample → Bool
-material t s = isNeg (valueAt t s)
-
-pub material-same : (t : Tape) (s : Sample) → material t s ≡ Tapes.material t s
-unfolding Tapes.material
-material-same t s = ap isNeg (value-at-same t s)
 
 -- Slots of ranges.
 abbrev pub nthR : List Range → ℕ → Range

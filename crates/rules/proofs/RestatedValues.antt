@@ -1,6 +1,6 @@
 -- Values and ranges as the paper of formal statements has them, word for word, and each equal to the definition used
 -- here. Where text and parts are the same nothing is repeated: `pick`, `isNeg`, `top`, `rootFrom`, the records. What a
--- request has changed since is not here (docs/DECISIONS.md): the range of a clause with two operands.
+-- request has changed since is not here (docs/DECISIONS.md): the value and the range of a clause with two operands.
 use mathlib.Core.Path.{_≡_, refl, sym, ap, ap₂, _∙_}
 use mathlib.Core.Bool.{Bool, true, false, _&&_, not}
 use lib.IntN.{ℤ, pos, negsuc, negℤ, natAbs, subℕ, _+ℤ_, _-ℤ_, _*ℤ_}
@@ -9,7 +9,7 @@ use native.Mathlib.Omega.{arith}
 use lib.Dec.{eqb, ltb, leb, leb·suc-suc}
 use borrow.Author.Tests.{ltb-true, ltb-false, leb-true, leb-false, le-ltb, lt-ltb}
 use Rattle.rules.specs.Values
-use Rattle.rules.specs.Values.{pick, isNeg, top, rootFrom, Clause, Sample, Range, range}
+use Rattle.rules.specs.Values.{pick, isNeg, top, rootFrom, Range, range}
 
 -- Whole numbers.
 abbrev pub less : ℕ → ℕ → ℤ
@@ -176,27 +176,6 @@ chain1 o a =
 pub unary-same : (o : ℕ) (a : ℤ) → chain1 o a ≡ Values.unaryValue o a
 unfolding Values.unaryValue
 unary-same o a = cc (neg-same a, absolute-same a, square-same a, root-same a)
-
-abbrev pub chain2 : ℕ → ℤ → ℤ → ℤ
-chain2 o a b =
-    pick (eqb o 9) (clamped (plus a b))
-    (pick (eqb o 10) (clamped (minus a b))
-    (pick (eqb o 11) (product a b) (pick (eqb o 12) (smaller a b) (larger a b))))
-
-pub binary-same : (o : ℕ) (a b : ℤ) → chain2 o a b ≡ Values.binaryValue o a b
-unfolding Values.binaryValue
-binary-same o a b =
-    cc (sum-same a b, difference-same a b, product-same a b, smaller-same a b, larger-same a b)
-
-abbrev pub valueOf : ℕ → ℤ → Sample → ℤ → ℤ → ℤ
-valueOf o c s a b =
-    pick (eqb o 0) c
-    (pick (eqb o 1) (s .x)
-    (pick (eqb o 2) (s .y) (pick (eqb o 3) (s .z) (pick (leb o 8) (chain1 o a) (chain2 o a b)))))
-
-pub value-same : (c : Clause) (s : Sample) (a b : ℤ) → valueOf (c .opcode) (c .constant) s a b ≡ Values.valueOf c s a b
-unfolding Values.valueOf
-value-same c s a b = cc (unary-same (c .opcode) a, binary-same (c .opcode) a b)
 
 -- Ranges.
 pub range-same : {a b c d : ℤ} → a ≡ c → b ≡ d → range a b ≡ range c d

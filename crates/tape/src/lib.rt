@@ -8,7 +8,7 @@ pub const SLOT_LIMIT: usize = 64;
 
 pub const CLAUSE_LIMIT: usize = 1024;
 
-pub const LAST_OPCODE: i32 = 13;
+pub const LAST_OPCODE: i32 = 14;
 
 // A tape's bytes: the head, with the edition in it, and each clause. A list's numbers to a clause.
 pub const HEAD_BYTES: usize = 8;

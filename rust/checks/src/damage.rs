@@ -25,7 +25,8 @@ pub fn tape(r: &mut Random, tape: &mut Vec<u8>) {
             tape[clause + 6..clause + 10].copy_from_slice(&i32::MIN.to_le_bytes());
         }
         6 | 7 => {
-            let fields = r.noise(8, |v| (v >> 32) as u8 % 15);
+            // an opcode of 15 is one too many
+            let fields = r.noise(8, |v| (v >> 32) as u8 % 16);
             tape[clause + 2..clause + 10].copy_from_slice(&fields);
         }
         8 => {

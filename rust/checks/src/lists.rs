@@ -34,7 +34,7 @@ const CHOICES: Kind = Kind {
         0 => 0,
         1 | 2 => 1 + r.below(3),
         3 => 4 + r.below(5),
-        4 => 9 + r.below(3),
+        4 => r.pick(&[9, 10, 11, 14]),
         _ => 12 + r.below(2),
     },
     constant: |r, grid| match r.below(10) {
@@ -45,13 +45,13 @@ const CHOICES: Kind = Kind {
     },
 };
 
-/// Sums and products, of values at the ends of the range and about 0: where they are clamped and rounded.
+/// Sums, products and quotients, of values at the ends of the range and about 0: where they are clamped and rounded.
 const ARITHMETIC: Kind = Kind {
     opcode: |r| match r.below(10) {
         0 | 1 => 0,
         2 | 3 => 1 + r.below(3),
         4 => 4 + r.below(5),
-        _ => 9 + r.below(3),
+        _ => r.pick(&[9, 10, 11, 14]),
     },
     constant: |r, grid| match r.below(4) {
         0 | 1 => end(r),
@@ -107,26 +107,55 @@ pub fn random(r: &mut Random, grid: &Grid) -> List {
     list(r, grid, slots, count, &CHOICES)
 }
 
-/// A short list of arithmetic; its result often goes past an end of the range and back, or is a product about 0, or a
-/// product by itself less some value.
+/// A short list of arithmetic; its result often goes past an end of the range and back, or is a product or a quotient
+/// of which rounding decides the sign, or a product by itself or a quotient less some value.
 pub fn arithmetic(r: &mut Random, grid: &Grid) -> List {
     let (slots, count) = (2 + r.below(3), 3 + r.below(7));
     let mut list = list(r, grid, slots, count, &ARITHMETIC);
-    let result = list.clauses[count as usize - 1][1];
-    let other = (result + 1) % slots as i32;
-    let mut and_then = |what: [i32; 2], opcode: i32| {
-        list.clauses.push([what[0], other, 0, 0, what[1]]);
-        list.clauses.push([opcode, result, result, other, 0]);
-    };
-    match r.below(4) {
-        0 => [0; 2].iter().for_each(|_| and_then([0, end(r)], r.pick(&[9, 10]))),
-        1 => and_then([r.pick(&[1, 2, 3]), 0], 11),
+    let axis = [r.pick(&[1, 2, 3]), 0];
+    match r.below(6) {
+        0 => [0; 2].iter().for_each(|_| list.and_then([0, end(r)], r.pick(&[9, 10]))),
+        1 => list.and_then(axis, 11),
         2 => {
-            list.clauses.push([11, result, result, result, 0]);
-            list.clauses.push([0, other, 0, 0, r.within(0, 3_000_000) as i32]);
-            list.clauses.push([10, result, result, other, 0]);
+            // small by small, and small by great
+            list.start_again(r.pick(&[1, 2, 3]));
+            if r.one_in(2) { list.and_then(axis, 11) } else { list.and_then([0, end(r)], 14) }
+        }
+        3 => {
+            list.by_itself();
+            list.and_then([0, r.within(0, 3_000_000) as i32], 10);
+        }
+        4 => {
+            list.and_then(axis, 14);
+            list.and_then([0, r.within(-200_000, 200_000) as i32], 10);
         }
         _ => {}
     }
     list
+}
+
+/// More clauses that write the result's slot.
+impl List {
+    fn result(&self) -> i32 {
+        self.clauses.last().expect("a clause")[1]
+    }
+
+    /// The result is the sample's place on an axis.
+    fn start_again(&mut self, axis: i32) {
+        self.clauses.push([axis, self.result(), 0, 0, 0]);
+    }
+
+    /// The result is the old one and another operand, a constant or an axis, by an operation.
+    fn and_then(&mut self, operand: [i32; 2], opcode: i32) {
+        let result = self.result();
+        let other = (result + 1) % self.slots as i32;
+        self.clauses.push([operand[0], other, 0, 0, operand[1]]);
+        self.clauses.push([opcode, result, result, other, 0]);
+    }
+
+    /// The result is the old one by itself.
+    fn by_itself(&mut self) {
+        let result = self.result();
+        self.clauses.push([11, result, result, result, 0]);
+    }
 }

@@ -37,7 +37,7 @@ impl Packing {
             1 | 2 => {
                 let at = r.index(case.list.len());
                 let any = r.number() as i32;
-                case.list[at] = r.pick(&[-1, 14, 64, i32::MIN, i32::MAX, any]);
+                case.list[at] = r.pick(&[-1, 14, 15, 64, i32::MIN, i32::MAX, any]);
             }
             3 => case.list.truncate(r.index(case.list.len())),
             4 => case.out += 1,

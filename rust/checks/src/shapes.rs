@@ -1,4 +1,4 @@
-//! Random parts: minima and maxima, one inside another, of balls, boxes and half spaces.
+//! Random parts: minima and maxima, one inside another, of balls, cones, boxes and half spaces.
 
 use crate::grids;
 use crate::lists::List;
@@ -14,6 +14,7 @@ const SUBTRACT: i32 = 10;
 const MULTIPLY: i32 = 11;
 const MINIMUM: i32 = 12;
 const MAXIMUM: i32 = 13;
+const DIVIDE: i32 = 14;
 
 /// Writes clauses, each slot given out again as soon as its value was read.
 struct Maker<'a> {
@@ -78,13 +79,32 @@ impl Maker<'_> {
         if self.r.one_in(2) { self.operation(NEGATE, &[distance]) } else { distance }
     }
 
-    fn ball(&mut self) -> i32 {
-        let squares = [0, 1, 2].map(|axis| {
+    /// The sum of the squares of two distances, along x and y.
+    fn squares_across(&mut self) -> i32 {
+        let squares = [0, 1].map(|axis| {
             let distance = self.along(axis);
             self.square(distance)
         });
-        let plane = self.operation(ADD, &squares[..2]);
-        let sum = self.operation(ADD, &[plane, squares[2]]);
+        self.operation(ADD, &squares)
+    }
+
+    /// The distance from a line along z, divided by the height above or the depth below some sample, less a slope. At
+    /// that sample the divisor is 0.
+    fn cone(&mut self) -> i32 {
+        let across = self.squares_across();
+        let distance = self.operation(ROOT, &[across]);
+        let height = self.along(2);
+        let height = if self.r.one_in(2) { self.operation(NEGATE, &[height]) } else { height };
+        let quotient = self.operation(DIVIDE, &[distance, height]);
+        let slope = self.r.within(-3 * 65_536, 3 * 65_536) as i32;
+        let slope = self.constant(slope);
+        self.operation(SUBTRACT, &[quotient, slope])
+    }
+
+    fn ball(&mut self) -> i32 {
+        let (across, height) = (self.squares_across(), self.along(2));
+        let height = self.square(height);
+        let sum = self.operation(ADD, &[across, height]);
         let distance = self.operation(ROOT, &[sum]);
         let width = self.grid.sizes[0] as i64 * self.grid.steps[0] as i64;
         let radius = self.r.within(0, width / 2) as i32;
@@ -103,7 +123,11 @@ impl Maker<'_> {
 
     fn part(&mut self, nested: u32) -> i32 {
         if nested == 0 {
-            return if self.r.one_in(2) { self.ball() } else { self.cut(4) };
+            return match self.r.below(5) {
+                0 | 1 => self.ball(),
+                2 => self.cone(),
+                _ => self.cut(4),
+            };
         }
         let (left, right) = (self.part(nested - 1), self.part(nested - 1));
         let opcode = if self.r.one_in(3) { MAXIMUM } else { MINIMUM };

@@ -33,11 +33,13 @@ pub enum Opcode {
     Minimum,
     /// The larger of left and right: what two parts have in common.
     Maximum,
+    /// Left divided by right, rounded down and clamped; by 0 the greatest value, 0 or the least, by left's sign.
+    Divide,
 }
 
 impl Opcode {
     /// All opcodes, in the order of their numbers.
-    pub const ALL: [Opcode; 14] = [
+    pub const ALL: [Opcode; 15] = [
         Opcode::Constant,
         Opcode::X,
         Opcode::Y,
@@ -52,6 +54,7 @@ impl Opcode {
         Opcode::Multiply,
         Opcode::Minimum,
         Opcode::Maximum,
+        Opcode::Divide,
     ];
 
     /// The opcode's number, as tapes and lists have it.
@@ -64,7 +67,7 @@ impl Opcode {
         match self {
             Opcode::Constant | Opcode::X | Opcode::Y | Opcode::Z => 0,
             Opcode::Copy | Opcode::Negate | Opcode::Absolute | Opcode::Square | Opcode::Root => 1,
-            Opcode::Add | Opcode::Subtract | Opcode::Multiply | Opcode::Minimum | Opcode::Maximum => 2,
+            Opcode::Add | Opcode::Subtract | Opcode::Multiply | Opcode::Minimum | Opcode::Maximum | Opcode::Divide => 2,
         }
     }
 }
@@ -176,6 +179,39 @@ impl Clause {
         Clause::binary(Opcode::Maximum, out, left, right)
     }
 
+    /// Writes `left` divided by `right` to `out`: tapers and cones. By 0 it is the greatest value, 0 or the least, by
+    /// the sign of `left`. Where 0 is among a region's divisors the quotient has no bounds there.
+    ///
+    /// ```
+    /// use layers::{fixed, Bitmap, Clause, Grid, Tape};
+    ///
+    /// // a cone with its tip at the height 8: the distance from the z axis by what is left to the tip, less a slope
+    /// let cone = Tape::from_clauses(3, &[
+    ///     Clause::x(0),
+    ///     Clause::square(0, 0),
+    ///     Clause::y(1),
+    ///     Clause::square(1, 1),
+    ///     Clause::add(0, 0, 1),
+    ///     Clause::root(0, 0),
+    ///     Clause::constant(1, fixed(8.0)),
+    ///     Clause::z(2),
+    ///     Clause::subtract(1, 1, 2),
+    ///     Clause::divide(0, 0, 1),
+    ///     Clause::constant(1, fixed(0.5)),
+    ///     Clause::subtract(0, 0, 1),
+    /// ])?;
+    /// let wide = |z: f64| -> Result<usize, layers::Refusal> {
+    ///     let grid = Grid::flat(8, 1).origin(fixed(-4.0), fixed(-0.5), fixed(z));
+    ///     let bitmap = Bitmap::draw(&cone, grid)?.picture;
+    ///     Ok((0..8).filter(|&x| bitmap.pixel(x, 0)).count())
+    /// };
+    /// assert_eq!([wide(0.0)?, wide(4.0)?, wide(6.0)?, wide(8.0)?], [8, 4, 2, 0]);
+    /// # Ok::<(), layers::Refusal>(())
+    /// ```
+    pub const fn divide(out: u8, left: u8, right: u8) -> Clause {
+        Clause::binary(Opcode::Divide, out, left, right)
+    }
+
     /// The clause in a list: opcode, out, left, right, constant.
     pub const fn numbers(self) -> [i32; 5] {
         [self.opcode.number() as i32, self.out as i32, self.left as i32, self.right as i32, self.constant]
@@ -209,6 +245,7 @@ mod tests {
             (Clause::multiply(9, 8, 7), [11, 9, 8, 7, 0]),
             (Clause::minimum(9, 8, 7), [12, 9, 8, 7, 0]),
             (Clause::maximum(9, 8, 7), [13, 9, 8, 7, 0]),
+            (Clause::divide(9, 8, 7), [14, 9, 8, 7, 0]),
         ];
         for (number, (clause, numbers)) in table.into_iter().enumerate() {
             assert_eq!(clause.opcode, Opcode::ALL[number]);
@@ -217,6 +254,6 @@ mod tests {
             // the table's clauses read slots other than 0
             assert_eq!(clause.opcode.reads(), numbers[2..4].iter().filter(|&&slot| slot != 0).count());
         }
-        assert_eq!(Opcode::ALL.len(), 14);
+        assert_eq!(Opcode::ALL.len(), 15);
     }
 }

@@ -100,7 +100,7 @@ refusals! {
     4 WrongLength, "tape length not 8 + 10·clauses; list length not a multiple of 5",
         "the length does not fit: a tape has 8 bytes and 10 for each clause that its head counts, \
          a list five numbers for each clause";
-    5 UnknownClause { clause }, "clause mark wrong, or opcode not 0 to 13",
+    5 UnknownClause { clause }, "clause mark wrong, or opcode not 0 to 14",
         "is not one: on a tape it begins with the bytes 43 4C, and its opcode is 0 to {LAST_OPCODE}";
     6 SlotOutOfRange { clause }, "a used slot field below 0, or not below the slot count",
         "uses a slot that the tape does not have: slots go from 0 to one below the slot count";

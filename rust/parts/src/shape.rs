@@ -2,7 +2,7 @@
 //!
 //! Lengths are millimetres. Squares are clamped at 32,768, so a part should stay within about 100 of the origin. Every
 //! formula is a distance, or near one: such a formula has tight bounds over a region, on which tiles depend. The shapes
-//! `by_products` alone are no distances, so that they can have neither round edges nor a wall.
+//! `by_products` and the cones alone are no distances, so that they can have neither round edges nor a wall.
 
 use crate::formula::{Formula, Id, nearest};
 use layers::Opcode;
@@ -27,6 +27,13 @@ enum Kind {
     Near(Vec<Direction>, f64),
     /// The same, by a sum of products.
     NearByProducts(Vec<Direction>, f64),
+    /// All points nearer to the line along a direction through the origin than a slope times what is left to the tip,
+    /// at a place of this line. Beyond the tip the formula tells nothing.
+    Taper {
+        along: Direction,
+        tip: f64,
+        slope: f64,
+    },
     Union(Vec<Shape>),
     Meet(Vec<Shape>),
     Outside(Shape),
@@ -101,6 +108,28 @@ pub fn rod_by_products(along: Direction, radius: f64) -> Shape {
 /// A cylinder along a direction through the origin, between two places of it.
 pub fn cylinder(along: Direction, radius: f64, low: f64, high: f64) -> Shape {
     intersection([rod(along, radius), slab(along, low, high)])
+}
+
+/// A tapered cylinder along a direction through the origin, between two places of it, with a radius at each.
+pub fn frustum(along: Direction, radii: [f64; 2], low: f64, high: f64) -> Shape {
+    let slope = (radii[0] - radii[1]) / (high - low);
+    assert!(slope != 0.0, "a cylinder has no tip");
+    let tip = low + radii[0] / slope;
+    // the way to the tip is along the direction, or against it
+    let (toward, sign) = if slope > 0.0 { (along, 1.0) } else { (along.map(|c| -c), -1.0) };
+    let taper = Shape::new(Kind::Taper { along: toward, tip: sign * tip, slope: slope.abs() });
+    intersection([taper, slab(along, low, high)])
+}
+
+/// A cone along a direction through the origin, from a place with this radius to the tip.
+pub fn cone(along: Direction, radius: f64, low: f64, tip: f64) -> Shape {
+    frustum(along, [radius, 0.0], low, tip)
+}
+
+/// A boss on a plate, along z: its radius at the foot, and how much narrower it gets for each unit of height, so that
+/// it leaves its mould.
+pub fn boss(radius: f64, draft: f64, low: f64, high: f64) -> Shape {
+    frustum(Z, [radius, radius - draft * (high - low)], low, high)
 }
 
 /// A sphere round the origin.
@@ -180,6 +209,13 @@ impl Shape {
                 let sum = sum_of(f, places, |f, place| f.binary(Opcode::Multiply, place, place));
                 surface(f, sum, limit * limit, w)
             }
+            Kind::Taper { along, tip, slope } => {
+                assert!(w.grown == 0.0, "a cone has no round edges");
+                let distance = distance(f, &across(*along), w);
+                let left = to_tip(f, *along, *tip, w);
+                let quotient = f.binary(Opcode::Divide, distance, left);
+                surface(f, quotient, *slope, w)
+            }
             Kind::Shell(shape, limit) => {
                 let value = shape.build(f, Wanted { outside: false, turned: false, grown: 0.0, ..w });
                 let distance = f.unary(Opcode::Absolute, value);
@@ -246,6 +282,13 @@ fn place_from(f: &mut Formula, d: Direction, at: [f64; 3]) -> Id {
     let d = upward(d);
     let place = place(f, d);
     f.less(place, nearest(dot(d, at)))
+}
+
+/// What is left along a direction to a place of it, seen from the shape's own origin.
+fn to_tip(f: &mut Formula, along: Direction, tip: f64, w: Wanted) -> Id {
+    let place = place(f, upward(along));
+    let tip = tip + dot(along, w.at);
+    if upward(along) == along { f.from(nearest(tip), place) } else { f.less(place, nearest(-tip)) }
 }
 
 /// Of a direction and its opposite the one whose first part other than 0 is above 0, so that the two share a formula.

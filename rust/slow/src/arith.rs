@@ -24,6 +24,19 @@ pub fn multiply(a: i128, b: i128) -> i128 {
     clamp(floor_unit(a * b))
 }
 
+/// The exact fraction 65,536·a/b toward minus infinity, clamped; for b = 0 M, 0 or −M by the sign of a.
+pub fn divide(a: i128, b: i128) -> i128 {
+    if b == 0 {
+        return if planted(Fault::ByZeroIsZero) { 0 } else { a.signum() * M };
+    }
+    if planted(Fault::DividesTowardZero) {
+        return clamp(UNIT * a / b);
+    }
+    // the same fraction over a divisor above 0
+    let (above, below) = if b < 0 { (-UNIT * a, -b) } else { (UNIT * a, b) };
+    clamp(above.div_euclid(below))
+}
+
 /// The sum; with the fault that clamps only at the end, not clamped.
 pub fn add(a: i128, b: i128) -> i128 {
     if planted(Fault::ClampsAtTheEnd) {
@@ -74,19 +87,40 @@ impl Range {
     /// Runs from 0 where the range holds 0.
     pub fn absolute(self) -> Self {
         let (a, b) = (self.low.abs(), self.high.abs());
-        let holds_zero = self.low <= 0 && 0 <= self.high;
-        Range::new(if holds_zero { 0 } else { a.min(b) }, a.max(b))
+        Range::new(if self.holds_zero() { 0 } else { a.min(b) }, a.max(b))
     }
 
-    /// The least and the greatest of the four end products.
-    pub fn multiply(self, other: Self) -> Self {
+    /// The least and the greatest of the four results of an operation on an end of each.
+    fn of_ends(self, other: Self, operation: fn(i128, i128) -> i128) -> Self {
         let ends = [
-            multiply(self.low, other.low),
-            multiply(self.low, other.high),
-            multiply(self.high, other.low),
-            multiply(self.high, other.high),
+            operation(self.low, other.low),
+            operation(self.low, other.high),
+            operation(self.high, other.low),
+            operation(self.high, other.high),
         ];
         Range::new(*ends.iter().min().unwrap(), *ends.iter().max().unwrap())
+    }
+
+    pub fn multiply(self, other: Self) -> Self {
+        self.of_ends(other, multiply)
+    }
+
+    /// Whether 0 is in the range, or one of its ends.
+    pub fn holds_zero(self) -> bool {
+        self.low <= 0 && 0 <= self.high
+    }
+
+    /// From −M to M where the divisor's range holds 0.
+    pub fn divide(self, other: Self) -> Self {
+        let free = planted(Fault::EndAtZeroIsFree) && (other.low == 0 || other.high == 0);
+        if other.holds_zero() && !free {
+            return Range::new(-M, M);
+        }
+        if planted(Fault::ThreeQuotients) {
+            let ends = [divide(self.low, other.low), divide(self.low, other.high), divide(self.high, other.low)];
+            return Range::new(*ends.iter().min().unwrap(), *ends.iter().max().unwrap());
+        }
+        self.of_ends(other, divide)
     }
 }
 
@@ -126,6 +160,7 @@ pub fn value(opcode: u8, constant: i32, sample: [i128; 3], a: i128, b: i128) -> 
         11 => multiply(a, b),
         12 => a.min(b),
         13 => a.max(b),
+        14 => divide(a, b),
         _ => unreachable!("opcode {opcode}"),
     }
 }
@@ -150,6 +185,7 @@ pub fn range(opcode: u8, constant: i32, axes: [Range; 3], a: Range, b: Range) ->
         11 => a.multiply(b),
         12 => Range::new(a.low.min(b.low), a.high.min(b.high)),
         13 => Range::new(a.low.max(b.low), a.high.max(b.high)),
+        14 => a.divide(b),
         _ => unreachable!("opcode {opcode}"),
     }
 }
@@ -174,5 +210,51 @@ mod tests {
         assert_eq!(unit.multiply(unit), Range::new(-1, 0));
         assert_eq!(choice(12, Range::new(0, 4), Range::new(5, 9)), Choice::Left);
         assert_eq!(choice(12, Range::new(0, 5), Range::new(5, 9)), Choice::Both);
+    }
+
+    /// Figures of the request for quotients.
+    #[test]
+    fn quotients() {
+        let (three, ten) = (3 * UNIT, 10 * UNIT);
+        let signs = [(-1, three), (1, -three), (-1, -three), (1, three)].map(|(a, b)| divide(a, b));
+        assert_eq!(signs, [-1, -1, 0, 0]);
+        let thirds = [(ten, three), (-ten, three), (ten, -three), (-ten, -three)].map(|(a, b)| divide(a, b));
+        assert_eq!(thirds, [218_453, -218_454, -218_454, 218_453]);
+        assert_eq!([5, 0, -5].map(|a| divide(a, 0)), [M, 0, -M]);
+        let clamped = [(M, -1), (M, 1), (-M, 1), (-M, -1), (M, M), (M, -M)].map(|(a, b)| divide(a, b));
+        assert_eq!(clamped, [-M, M, -M, M, UNIT, -UNIT]);
+        assert_eq!([divide(65_536, 3), divide(98_303, 3), divide(98_304, 3)], [1_431_655_765, 2_147_461_802, M]);
+        assert_eq!([divide(0, 7), divide(0, -7)], [0, 0]);
+    }
+
+    #[test]
+    fn ranges_of_quotients() {
+        let over = |a: (i128, i128), b: (i128, i128)| {
+            let range = Range::new(a.0, a.1).divide(Range::new(b.0, b.1));
+            (range.low, range.high)
+        };
+        assert_eq!(over((-131_072, 196_608), (-131_072, -65_536)), (-196_608, 131_072));
+        assert_eq!(over((-3, 5), (2, 7)), (-98_304, 163_840));
+        for holds_zero in [(0, 5), (-5, 0), (-1, 1), (0, 0), (-M, M)] {
+            assert_eq!(over((-3, 5), holds_zero), (-M, M));
+            assert_eq!(over((0, 0), holds_zero), (-M, M));
+        }
+        assert_eq!(over((1, 2), (1, 1)), (65_536, 131_072));
+        assert_eq!(over((-5, -3), (-7, -2)), (28_086, 163_840));
+        // equal slots get no case of their own: 2 over 4 to 4 over 2
+        assert_eq!(over((2, 4), (2, 4)), (32_768, 131_072));
+    }
+
+    /// Every value of a small range by every one of another lies in the range.
+    #[test]
+    fn ranges_hold_their_quotients() {
+        let ranges = || (-6..=6).flat_map(|low| (low..=6).map(move |high| Range::new(low, high)));
+        for (a, b) in ranges().flat_map(|a| ranges().map(move |b| (a, b))) {
+            let all = a.divide(b);
+            for (v, w) in (a.low..=a.high).flat_map(|v| (b.low..=b.high).map(move |w| (v, w))) {
+                let q = divide(v, w);
+                assert!(all.low <= q && q <= all.high, "{v} by {w} in {a:?} by {b:?}");
+            }
+        }
     }
 }

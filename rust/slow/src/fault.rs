@@ -58,6 +58,13 @@ listed! {
         LastWithoutHalf,
         /// Line 11 tests the first sample in place of the origin.
         OriginNotTested,
+        DividesTowardZero,
+        /// A quotient by 0 is 0.
+        ByZeroIsZero,
+        /// A divisor's range that ends at 0 counts as free of it.
+        EndAtZeroIsFree,
+        /// The quotient of the two high ends is left out of a range.
+        ThreeQuotients,
     }
 }
 

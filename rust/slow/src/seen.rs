@@ -27,6 +27,12 @@ listed! {
         ReadsItsOut,
         /// A multiply of a slot by itself was run over a range with both signs.
         Squared,
+        /// A quotient was run over a divisor's range that holds 0.
+        DivisorHoldsZero,
+        /// A quotient was run over a divisor's range without 0.
+        DivisorFree,
+        /// A quotient was run on a divisor of 0.
+        DividedByZero,
     }
 }
 

@@ -22,6 +22,16 @@ pub fn multiply(a: i32, b: i32) -> i32 {
     clamp(product(a, b) >> 16)
 }
 
+/// Rounded toward minus infinity, where the machine's own division goes toward zero.
+pub fn divide(a: i32, b: i32) -> i32 {
+    if b == 0 {
+        return a.signum() * i32::MAX;
+    }
+    let (above, below) = ((a as i64) << 16, b as i64);
+    let past = above % below != 0 && (above < 0) != (below < 0);
+    clamp(above / below - past as i64)
+}
+
 /// The number under the root is below 2^47, so a root that is not whole lies further from the next whole number than
 /// rounding to 53 bits can move it: the whole part needs no settling. By way of i64, since the machine's own conversion to
 /// 64 bits leaves less to be done for numbers that don't fit.
@@ -75,6 +85,20 @@ impl Span {
         Span::new(clamp(p.min(q).min(s.min(t)) >> 16), clamp(p.max(q).max(s.max(t)) >> 16))
     }
 
+    /// Over a divisor above 0 a quotient grows with its numerator, and with its divisor where the numerator is below 0,
+    /// so that two of the four quotients are made. A divisor below 0 is turned round with its numerator.
+    pub fn divide(self, b: Span) -> Span {
+        if b.high < 0 {
+            return self.negate().divide(b.negate());
+        }
+        if b.low <= 0 {
+            return Span::new(-i32::MAX, i32::MAX);
+        }
+        let least = divide(self.low, if self.low < 0 { b.low } else { b.high });
+        let greatest = divide(self.high, if self.high < 0 { b.high } else { b.low });
+        Span::new(least, greatest)
+    }
+
     pub fn minimum(self, b: Span) -> Span {
         Span::new(self.low.min(b.low), self.high.min(b.high))
     }
@@ -86,5 +110,33 @@ impl Span {
     /// Whether every number of this range is below every one of the other.
     pub fn below(self, b: Span) -> bool {
         self.high < b.low
+    }
+}
+
+#[cfg(test)]
+mod tests {
+    use super::*;
+
+    /// Both ends, against all four quotients where the divisor is free of 0.
+    #[test]
+    fn two_quotients_are_the_least_and_the_greatest_of_four() {
+        let ends = [-i32::MAX, -200_000, -65_536, -7, -2, -1, 0, 1, 2, 7, 65_536, 200_000, i32::MAX];
+        let spans = || (0..ends.len()).flat_map(|i| ends[i..].iter().map(move |&high| Span::new(ends[i], high)));
+        for (a, b) in spans().flat_map(|a| spans().map(move |b| (a, b))) {
+            let four = [a.low, a.high].map(|v| [b.low, b.high].map(|w| divide(v, w))).concat();
+            let held = b.low <= 0 && b.high >= 0;
+            let expected = if held { vec![-i32::MAX, i32::MAX] } else { four };
+            let found = a.divide(b);
+            assert_eq!(Some(found.low), expected.iter().copied().min());
+            assert_eq!(Some(found.high), expected.iter().copied().max());
+        }
+    }
+
+    #[test]
+    fn quotients_round_down() {
+        let three = 3 << 16;
+        let quotients = [(-1, three), (1, -three), (-1, -three), (5, 0), (0, 0), (-5, 0), (i32::MAX, -1), (65_536, 3)];
+        let expected = [-1, -1, 0, i32::MAX, 0, -i32::MAX, -i32::MAX, 1_431_655_765];
+        assert_eq!(quotients.map(|(a, b)| divide(a, b)), expected);
     }
 }

@@ -11,7 +11,7 @@ use slow::seen::{self, Event};
 #[derive(Default)]
 struct Met {
     events: [u64; Event::ALL.len()],
-    opcodes: [u64; 14],
+    opcodes: [u64; 15],
     end_constants: u64,
 }
 
@@ -63,11 +63,13 @@ fn drawings_of_shapes() {
     compare_walks("drawings_of_shapes", &SHAPES);
 }
 
-/// Each opcode below the minimum's, and a constant at an end of the range, is met in a fair part of the cases.
+/// Each opcode but the minimum's and the maximum's, and a constant at an end of the range, is met in a fair part of the
+/// cases.
 #[test]
 fn drawings_of_arithmetic() {
     let (cases, met) = compare_all("drawings_of_arithmetic", &ARITHMETIC);
-    assert!(met.opcodes[..12].iter().all(|&n| n >= cases / 20), "opcodes: {:?}", met.opcodes);
+    let arithmetic = met.opcodes[..12].iter().chain(&met.opcodes[14..]);
+    assert!(arithmetic.min() >= Some(&(cases / 20)), "opcodes: {:?}", met.opcodes);
     assert!(met.end_constants >= cases / 10, "constants at the ends: {}", met.end_constants);
 }
 

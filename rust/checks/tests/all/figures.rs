@@ -146,6 +146,52 @@ fn a_flat_z_is_taken_as_given() {
     }
 }
 
+/// The request for quotients: a by b less a limit has material at the limit that is one above the quotient, and not at
+/// the quotient itself.
+#[test]
+fn quotients() {
+    let (unit, m) = (65_536, i32::MAX);
+    let figures = [
+        (-1, 3 * unit, -1),
+        (1, -3 * unit, -1),
+        (-1, -3 * unit, 0),
+        (10 * unit, 3 * unit, 218_453),
+        (-10 * unit, 3 * unit, -218_454),
+        (5, 0, m),
+        (0, 0, 0),
+        (-5, 0, -m),
+        (m, -1, -m),
+        (65_536, 3, 1_431_655_765),
+    ];
+    for (a, b, quotient) in figures {
+        for limit in [quotient, quotient.saturating_add(1)] {
+            let list = [[0, 0, 0, 0, a], [0, 1, 0, 0, b], [14, 0, 0, 1, 0], [0, 1, 0, 0, limit], [10, 0, 0, 1, 0]];
+            let tape = Tape::from_list(2, &list.concat()).expect("an accepted list").to_bytes();
+            let drawing = Drawing::new(tape, grid([1, 1, 1]));
+            let mut full = [0xFF; 1];
+            assert_eq!(raw::draw_flat(&drawing.tape, drawing.core_grid(), &mut full), done(5));
+            assert_eq!(full, [if limit > quotient { 0x80 } else { 0x00 }], "{a} by {b} below {limit}");
+            assert_eq!(numbers(&drawing), [0; 4]);
+        }
+    }
+}
+
+/// x by y over one region, x from −2.0 to 3.0 and y from −2.0 to −1.0: from −3.0 to 2.0. Less a bound the region is
+/// filled or skipped at once, with one run of five clauses.
+#[test]
+fn ranges_of_quotients() {
+    let counts = |bound: i32| {
+        let list = [[1, 0, 0, 0, 0], [2, 1, 0, 0, 0], [14, 0, 0, 1, 0], [0, 1, 0, 0, bound], [10, 0, 0, 1, 0]];
+        let tape = Tape::from_list(2, &list.concat()).expect("an accepted list").to_bytes();
+        // cells from −2.5 on have their middles at −2.0, −1.0 and so on
+        let drawing = Drawing::new(tape, Grid { origins: [-163_840, -163_840, 0], ..grid([6, 2, 1]) });
+        let mut r = Random::new(0x5EED_000C);
+        drawing.compare(&mut r).unwrap_or_else(|e| panic!("{e}"))[2].count
+    };
+    assert_eq!([131_073, -196_608].map(counts), [5, 5]);
+    assert!([131_072, -196_607].iter().all(|&bound| counts(bound) > 5));
+}
+
 #[test]
 fn the_tape_is_its_list() {
     let list = [1, 0, 0, 0, 0, 0, 1, 0, 0, 131_072, 10, 0, 0, 1, 0];

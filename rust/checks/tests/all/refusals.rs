@@ -18,7 +18,7 @@ const LIST: [[i32; 5]; 5] = [[1, 0, 0, 0, 0], [2, 1, 0, 0, 0], [0, 2, 0, 0, 5], 
 
 /// Clause, field, a wrong value of it, the number returned: in the order of the checks.
 const CLAUSE_FAULTS: [(usize, usize, i32, u8); 22] = [
-    (2, 0, 14, 5),
+    (2, 0, 15, 5),
     (2, 0, 255, 5),
     (2, 0, -1, 5),
     (2, 1, 8, 6),
@@ -28,7 +28,7 @@ const CLAUSE_FAULTS: [(usize, usize, i32, u8); 22] = [
     (2, 3, 255, 7),
     (2, 3, i32::MIN, 7),
     (2, 4, i32::MIN, 8),
-    (3, 0, 14, 5),
+    (3, 0, 15, 5),
     (3, 0, i32::MAX, 5),
     (3, 1, 8, 6),
     (3, 2, 64, 6),

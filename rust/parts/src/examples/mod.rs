@@ -1,6 +1,7 @@
 //! The example parts. y runs downward in a picture, and a solid is seen from above, from the side of great z.
 
 mod bracket;
+mod flange;
 mod gear;
 mod housing;
 mod lattice;
@@ -10,5 +11,13 @@ mod tray;
 use crate::Design;
 
 pub fn designs() -> Vec<Design> {
-    vec![bracket::bracket(), gear::gear(), housing::housing(), lettering::lettering(), lattice::lattice(), tray::tray()]
+    vec![
+        bracket::bracket(),
+        gear::gear(),
+        housing::housing(),
+        lettering::lettering(),
+        lattice::lattice(),
+        tray::tray(),
+        flange::flange(),
+    ]
 }

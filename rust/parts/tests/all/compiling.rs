@@ -34,7 +34,7 @@ fn tangle(random: &mut Random, nodes: usize) -> (Formula, Id) {
     let mut formula = Formula::default();
     let mut made = vec![formula.axis(0), formula.axis(1), formula.axis(2)];
     for _ in 0..nodes {
-        let op = Opcode::ALL[random.below(14) as usize];
+        let op = Opcode::ALL[random.below(Opcode::ALL.len() as u64) as usize];
         let a = made[random.below(made.len() as u64) as usize];
         let b = made[random.below(made.len() as u64) as usize];
         made.push(match op.reads() {

@@ -57,6 +57,33 @@ fn products_have_no_round_edges() {
     sphere_by_products(8.0).within(plane(X, 0.0)).rounded(1.0).formula(&mut Formula::default());
 }
 
+/// The distance from the z axis less a radius, within two heights.
+fn round_rule([x, y, z]: [f64; 3], radius: f64, low: f64, high: f64) -> f64 {
+    (length(&[x, y]) - radius).max(low - z).max(z - high)
+}
+
+#[test]
+fn tapered_shapes() {
+    agrees(cone(Z, 10.0, -6.0, 9.0), |p| round_rule(p, (9.0 - p[2]) / 1.5, -6.0, 9.0));
+    agrees(cone([0.0, 0.0, -1.0], 10.0, -6.0, 9.0), |p| round_rule(p, (9.0 + p[2]) / 1.5, -9.0, 6.0));
+    agrees(frustum(Z, [8.0, 4.0], -10.0, 6.0), |p| round_rule(p, 5.5 - p[2] / 4.0, -10.0, 6.0));
+    agrees(frustum(Z, [4.0, 8.0], -10.0, 6.0), |p| round_rule(p, 6.5 + p[2] / 4.0, -10.0, 6.0));
+    agrees(boss(9.0, 0.25, -8.0, 8.0), |p| round_rule(p, 7.0 - p[2] / 4.0, -8.0, 8.0));
+    let aside = frustum(X, [8.0, 4.0], -10.0, 6.0).translate([1.0, 2.0, -3.0]);
+    agrees(aside, |[x, y, z]| round_rule([y - 2.0, z + 3.0, x - 1.0], 5.5 - (x - 1.0) / 4.0, -10.0, 6.0));
+    let sunk = block([-9.0; 3], [9.0; 3]).without(cone([0.0, 0.0, -1.0], 9.0, -9.0, 9.0));
+    agrees(sunk, |p| {
+        let inside = p.iter().map(|c| c.abs()).fold(0.0, f64::max) - 9.0;
+        inside.max(-round_rule(p, (9.0 + p[2]) / 2.0, -9.0, 9.0))
+    });
+}
+
+#[test]
+#[should_panic(expected = "no round edges")]
+fn cones_have_no_round_edges() {
+    cone(Z, 8.0, 0.0, 8.0).rounded(1.0).formula(&mut Formula::default());
+}
+
 fn box_rule([x, y, z]: [f64; 3]) -> f64 {
     (x.abs() - 9.0).max(y.abs() - 7.0).max(z.abs() - 5.0)
 }
