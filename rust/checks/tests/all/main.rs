@@ -10,3 +10,4 @@ mod probe;
 mod program;
 mod refusals;
 mod stack;
+mod text;
