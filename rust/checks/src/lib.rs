@@ -12,5 +12,6 @@ pub mod probe;
 pub mod program;
 pub mod random;
 pub mod shapes;
+pub mod slopes;
 pub mod text;
 pub mod trees;

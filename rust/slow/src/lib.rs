@@ -26,6 +26,7 @@ pub mod netpbm;
 pub mod probe;
 pub mod program;
 pub mod seen;
+pub mod slopes;
 pub mod tape;
 pub mod text;
 pub mod walk;

@@ -9,5 +9,6 @@ mod figures;
 mod probe;
 mod program;
 mod refusals;
+mod slopes;
 mod stack;
 mod text;

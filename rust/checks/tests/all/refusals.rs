@@ -67,6 +67,11 @@ pub fn wrong_tapes<T: 'static>(tape: fn(&mut T) -> &mut Vec<u8>) -> Vec<Wrong<T>
     tape_wrongs(tape)
 }
 
+/// What can be wrong with a grid, for the tests of other calls too: 10 and 11.
+pub fn wrong_grids<T: 'static>(grid: fn(&mut T) -> &mut Grid) -> Vec<Wrong<T>> {
+    grid_wrongs(grid)
+}
+
 /// Tries each alone and any two at once on a good input; they stand in the order of the checks.
 pub fn try_all<T: Clone>(good: &T, wrongs: &[Wrong<T>], mut answers: impl FnMut(&T, Answer)) {
     for (i, first) in wrongs.iter().enumerate() {
