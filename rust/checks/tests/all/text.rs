@@ -198,6 +198,24 @@ fn every_short_text_of_numbers() {
     assert!(every_short_text(b"9.-", 11) > 9_000);
 }
 
+/// The grammar tells a reader with a fault from one without.
+#[test]
+fn the_grammar_catches_faults() {
+    let faults: [(Fault, &[u8], usize); 4] = [
+        (Fault::WholePart32768, b"32768", 5),
+        (Fault::SpaceBeforePoint, b"1. ", 4),
+        (Fault::Brackets33, b"x(", 3),
+        (Fault::DeepBeforeBroken, b"1(", 3),
+    ];
+    for (fault, bytes, longest) in faults {
+        let grammar = Grammar::new(bytes, longest);
+        let begun = grammar.beginnings().filter(|begun| begun.len() < longest);
+        let mut texts = begun.flat_map(|begun| bytes.iter().map(move |&byte| [&begun[..], &[byte]].concat()));
+        let differs = |text: Vec<u8>| text::tree_within(&text, 1, Some(fault)).err() != by_grammar(&grammar, &text, 1);
+        assert!(texts.any(differs), "{fault:?} is not caught");
+    }
+}
+
 /// A value of a sample, of every size.
 fn coordinate(r: &mut Random) -> i128 {
     let bits = r.below(32);
