@@ -5,6 +5,7 @@ pub mod formula;
 pub mod picture;
 pub mod shape;
 pub mod slots;
+pub mod text;
 
 use formula::{Formula, nearest};
 use layers::{Grid, MAX_SLOTS, Tape};
@@ -42,6 +43,13 @@ impl Design {
         let mut formula = Formula::default();
         let result = self.shape.formula(&mut formula);
         compile(&formula, result, slots)
+    }
+
+    /// The part's formula as a designer could have typed it.
+    pub fn text(&self) -> String {
+        let mut formula = Formula::default();
+        let result = self.shape.formula(&mut formula);
+        text::text(&formula, result)
     }
 
     /// The box, cut into n cells along each axis.

@@ -18,13 +18,17 @@ macro_rules! listed {
 
 pub mod arith;
 pub mod call;
+pub mod compile;
 pub mod draw;
 pub mod edition;
 pub mod fault;
+pub mod formula;
 pub mod netpbm;
 pub mod probe;
 pub mod program;
 pub mod seen;
+pub mod slopes;
 mod slots;
 pub mod tape;
+pub mod text;
 pub mod walk;

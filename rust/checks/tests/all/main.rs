@@ -10,4 +10,6 @@ mod lanes;
 mod probe;
 mod program;
 mod refusals;
+mod slopes;
 mod stack;
+mod text;

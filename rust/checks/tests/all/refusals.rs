@@ -77,7 +77,7 @@ pub fn tape_of(slots: u32) -> Vec<u8> {
 }
 
 /// Its pictures have 10 bytes and 45 heights.
-fn good_drawing() -> Drawing {
+pub fn good_drawing() -> Drawing {
     drawing_of(SLOTS)
 }
 
@@ -158,7 +158,7 @@ pub fn tape_wrongs<T: 'static>(slots: u32, tape: fn(&mut T) -> &mut Vec<u8>) -> 
 }
 
 /// What can be wrong with width, height and their axes, in a flat drawing and a solid: 10 and 11.
-fn grid_wrongs<T: 'static>(grid: fn(&mut T) -> &mut Grid) -> Vec<Wrong<T>> {
+pub fn grid_wrongs<T: 'static>(grid: fn(&mut T) -> &mut Grid) -> Vec<Wrong<T>> {
     vec![
         wrong(10, move |t: &mut T| grid(t).sizes[0] = 0),
         wrong(10, move |t: &mut T| grid(t).sizes[1] = 0),

@@ -4,3 +4,4 @@ mod common;
 mod compiling;
 mod files;
 mod shapes;
+mod texts;
