@@ -14,9 +14,9 @@ pub mod Reading
 pub mod Places
 pub mod Accepted
 pub mod Runs
-pub mod Lent
 pub mod Needed
 pub mod Algebra
+pub mod Lent
 pub mod Short
 pub mod ShortAccepted
 pub mod Marks
