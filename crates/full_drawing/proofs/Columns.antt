@@ -9,11 +9,12 @@ use Rattle.rules.specs.Values.{pick}
 use Rattle.rules.specs.Tapes.{Tape, material}
 use Rattle.rules.specs.Drawings as D
 use Rattle.rules.specs.Drawings.{at, solid, layers, sampleAt, columnFrom}
+use Rattle.rules.specs.Accepted.{Accepted}
 use Rattle.code.specs.Words.{tapeIn}
-use Rattle.code.specs.Runs.{Fit, SampleOk}
+use Rattle.code.specs.Runs.{SampleOk}
 use Rattle.picture.specs.Shapes.{gridIn}
 use Rattle.picture.specs.declared.grid.Grid.{Grid}
-use Rattle.picture.proofs.Grids.{Accepted}
+use Rattle.picture.proofs.Grids.{Accepted as AcceptedGrid}
 use Rattle.full_drawing.specs.Full.{sampleIn, Says, Height}
 
 -- The column's two equations.
@@ -34,7 +35,7 @@ column-none t g i j = refl
 -- Before layer k: the layers below k alone give the height h.
 pub record Climbed (ws : List ℕ) (g : D.Grid) (i j k h : ℕ) : Type 0 where
   pub below : k ≤ layers g
-  pub same : (n : ℕ) → Fit n ws → h ≡ columnFrom k (tapeIn n ws) g i j
+  pub same : (n : ℕ) → Accepted (tapeIn n ws) → h ≡ columnFrom k (tapeIn n ws) g i j
 
 module _ {ws : List ℕ} {g : D.Grid} {i j : ℕ} where
   pub start-climb : Climbed ws g i j 0 0
@@ -61,7 +62,7 @@ module _ {ws : List ℕ} {g : D.Grid} {i j : ℕ} where
       record { height = λ n f. c .same n f ∙ ap (λ m. columnFrom m (tapeIn n ws) g i j) e }
 
 -- A solid grid's layers and samples, as the code has them; its samples are values.
-module _ (grid : Grid) (a : Accepted grid true) where
+module _ (grid : Grid) (a : AcceptedGrid grid true) where
   pub solid-layers : grid .depth ≡ layers (gridIn grid true)
   solid-layers = ap (λ t. pick t (grid .depth) 1) (a .kind)
 

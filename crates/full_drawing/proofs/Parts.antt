@@ -7,7 +7,8 @@ use native.Mathlib.Nat.{mul-le-mul-right}
 use native.Mathlib.Omega.{arith}
 use lib.ListN.{length, set, take, length-set}
 use lib.Seq.{take-suc-set, take-all}
-use Rattle.code.specs.Runs.{Fit}
+use Rattle.rules.specs.Accepted.{Accepted}
+use Rattle.code.specs.Words.{tapeIn}
 use Rattle.full_drawing.specs.Full.{Put}
 
 -- A loop puts `end` parts of s numbers each, from `from` on; i of them are put, and the next stands at `at`. With n
@@ -16,7 +17,7 @@ pub record Along (ws : List ℕ) (rest : ℕ → ℕ → List ℕ) (s end from :
   pub size : length p ≡ length p₀
   pub within : i ≤ end
   pub place : at ≡ from + i * s
-  pub same : (n : ℕ) → Fit n ws → take at p ++ rest n i ≡ take from p₀ ++ rest n 0
+  pub same : (n : ℕ) → Accepted (tapeIn n ws) → take at p ++ rest n i ≡ take from p₀ ++ rest n 0
 
 module _ (ws : List ℕ) (rest : ℕ → ℕ → List ℕ) (s end from : ℕ) (p₀ : List ℕ) where
   pub start-along : (at : ℕ) → at ≡ from → Along ws rest s end from p₀ p₀ 0 at
@@ -35,7 +36,8 @@ module _ (ws : List ℕ) (rest : ℕ → ℕ → List ℕ) (s end from : ℕ) (p
         let m : suc i ≤ end = omega arith in
         omega (arith, a .place, a .size, mul-le-mul-right s m)
 
-    pub next-along : (part : ℕ → List ℕ) → ((n : ℕ) → Fit n ws → rest n i ≡ part n ++ rest n (suc i)) → i < end
+    pub next-along : (part : ℕ → List ℕ)
+        → ((n : ℕ) → Accepted (tapeIn n ws) → rest n i ≡ part n ++ rest n (suc i)) → i < end
         → (p′ : List ℕ) → length p′ ≡ length p → Put ws part s at p p′ → (at′ : ℕ) → at′ ≡ at + s
         → Along ws rest s end from p₀ p′ (i + 1) at′
     next-along part first l p′ k u at′ e =
@@ -63,7 +65,8 @@ module _ (ws : List ℕ) (rest : ℕ → ℕ → List ℕ) (s end from : ℕ) (p
 -- Parts of one number, which make a row.
 module _ (ws : List ℕ) (rest : ℕ → ℕ → List ℕ) (end from : ℕ) (p₀ p : List ℕ) (i : ℕ)
     (a : Along ws rest 1 end from p₀ p i (from + i)) where
-  pub next-one : (v : ℕ) → ((n : ℕ) → Fit n ws → rest n i ≡ v ∷ rest n (suc i)) → i < end → from + i < length p
+  pub next-one : (v : ℕ) → ((n : ℕ) → Accepted (tapeIn n ws) → rest n i ≡ v ∷ rest n (suc i)) → i < end
+      → from + i < length p
       → Along ws rest 1 end from p₀ (set p (from + i) v) (i + 1) (from + (i + 1))
   next-one v first l m =
       next-along ws rest 1 end from p₀ p i (from + i) a (λ n. v ∷ []) first l (set p (from + i) v)
@@ -83,7 +86,7 @@ module _ (ws : List ℕ) (rest : ℕ → ℕ → List ℕ) (end from : ℕ) (p�
 -- The parts of a whole picture, which are its rows.
 pub picture-put : (ws : List ℕ) (rest : ℕ → ℕ → List ℕ) (s end : ℕ) (p₀ p : List ℕ) (i at : ℕ)
     → Along ws rest s end 0 p₀ p i at → ((n : ℕ) → rest n end ≡ []) → end ≤ i → length p₀ ≡ end * s
-    → (n : ℕ) → Fit n ws → p ≡ rest n 0
+    → (n : ℕ) → Accepted (tapeIn n ws) → p ≡ rest n 0
 picture-put ws rest s end p₀ p i at a none l k n f =
     sym (take-all (0 + end * s) p (omega (arith, a .size))) ∙ done-along ws rest s end 0 p₀ p i at a none l .put n f
 

@@ -12,12 +12,13 @@ use Rattle.rules.specs.Tapes.{Tape, material}
 use Rattle.rules.specs.Drawings as D
 use Rattle.rules.specs.Drawings.{layers, sampleAt, columnFrom, rowFrom}
 use Rattle.rules.specs.Pictures.{byteOf}
+use Rattle.rules.specs.Accepted.{Accepted}
 use Rattle.code.specs.Words.{tapeIn}
-use Rattle.code.specs.Runs.{Fit, SampleOk}
+use Rattle.code.specs.Runs.{SampleOk}
 use Rattle.picture.specs.Bits.{rowByteFrom, rowByte}
 use Rattle.picture.specs.Shapes.{gridIn}
 use Rattle.picture.specs.declared.grid.Grid.{Grid}
-use Rattle.picture.proofs.Grids.{Accepted}
+use Rattle.picture.proofs.Grids.{Accepted as AcceptedGrid}
 use Rattle.full_drawing.specs.Full.{sampleIn, Says, Byte}
 use Rattle.full_drawing.proofs.Columns.{column-found, column-passed, column-none}
 
@@ -95,7 +96,7 @@ take-row (suc m) (suc n) i j t g =
 -- The byte of the first k pixels from pixel i on.
 pub record Pixels (ws : List ℕ) (g : D.Grid) (i j count byte k : ℕ) : Type 0 where
   pub within : k ≤ count
-  pub same : (n : ℕ) → Fit n ws → byte ≡ rowByte (materials k i j (tapeIn n ws) g)
+  pub same : (n : ℕ) → Accepted (tapeIn n ws) → byte ≡ rowByte (materials k i j (tapeIn n ws) g)
 
 module _ (ws : List ℕ) (g : D.Grid) (i j count : ℕ) where
   pub start-pixels : Pixels ws g i j count 0 0
@@ -134,6 +135,6 @@ pub flat-sample : (grid : Grid) (i j : ℕ) → sampleIn grid i j (grid .zorigin
 unfolding sampleAt
 flat-sample grid i j = refl
 
-pub flat-ok : (grid : Grid) (a : Accepted grid false) (i j : ℕ) → i < grid .width → j < grid .height
+pub flat-ok : (grid : Grid) (a : AcceptedGrid grid false) (i j : ℕ) → i < grid .width → j < grid .height
     → SampleOk (sampleIn grid i j (grid .zorigin))
 flat-ok grid a i j l m = record { x = a .x-value i l; y = a .y-value j m; z = a .flat-z }

@@ -3,6 +3,7 @@ use code::run::run_values;
 use fixed::clause::Sample;
 use picture::grid::Grid;
 use picture::grid::sample;
+use tape::SLOT_LIMIT;
 ghost use Rattle.code.specs.Words.{Runnable};
 ghost use Rattle.code.specs.Runs.{SampleOk};
 ghost use Rattle.full_drawing.specs.Full.{sampleIn, Says};
@@ -15,5 +16,6 @@ pub fn has_material(code: &[u64], grid: Grid, i: u32, j: u32, z: i32) -> bool
 {
     let x = sample(grid.xorigin, grid.xstep, i);
     let y = sample(grid.yorigin, grid.ystep, j);
-    run_values(code, Sample { x: x, y: y, z: z }) < 0
+    let mut slots = [0i32; SLOT_LIMIT];
+    run_values(code, Sample { x: x, y: y, z: z }, &mut slots) < 0
 }

@@ -16,9 +16,8 @@ use Rattle.rules.proofs.Lines.{each-line}
 use Rattle.rules.specs.Accepted.{Accepted}
 use Rattle.rules.proofs.Accepted.{accepted-tape}
 use Rattle.code.specs.Words.{tapeIn}
-use Rattle.code.specs.Runs.{Fit}
 use Rattle.code.specs.Unpacking.{Unpackable, Unpacked}
-use Rattle.code.proofs.WordTapes.{words-run, words-runnable, unpacked-tape, unpacked-accepted}
+use Rattle.code.proofs.WordTapes.{words-runnable, unpacked-tape, unpacked-accepted}
 use Rattle.picture.specs.Shapes.{gridIn}
 use Rattle.picture.specs.declared.grid.Grid.{Grid}
 use Rattle.full_drawing.specs.Full.{Drawable, FullDrawn}
@@ -84,13 +83,6 @@ module _ {t : Bool} {s : List ℕ} {g : D.Grid} {n m : ℕ} (d : Draws t s g n m
   words-tape : tapeIn (readTape s .tape .slots) (take k ws′) ≡ readTape s .tape
   words-tape = unpacked-tape s ws ws′ k o
 
-  words-fit : Fit (readTape s .tape .slots) (take k ws′)
-  words-fit =
-      record {
-        slots = words-accepted .slots;
-        all = words-run (readTape s .tape .slots) (take k ws′) words-accepted;
-      }
-
   pub drawable : Drawable t (take k ws′) g
   drawable =
       record {
@@ -106,8 +98,8 @@ module _ {t : Bool} {s : List ℕ} {g : D.Grid} {n m : ℕ} (d : Draws t s g n m
   full-of v =
       let n = readTape s .tape .slots in
       record {
-        pixels = v .pixels n words-fit ∙ ap (λ a. picture t g (D.drawn a g)) words-tape;
-        count = v .clauses n words-fit ∙ ap (λ a. D.fullCount a g) words-tape;
+        pixels = v .pixels n words-accepted ∙ ap (λ a. picture t g (D.drawn a g)) words-tape;
+        count = v .clauses n words-accepted ∙ ap (λ a. D.fullCount a g) words-tape;
       }
 
 pub tiles-of : {t : Bool} {s : List ℕ} {r : Grid} {n m : ℕ} → Draws t s (gridIn r t) n m → {ws ws′ : List ℕ} {k : ℕ}

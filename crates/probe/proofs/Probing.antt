@@ -18,9 +18,9 @@ use Rattle.rules.proofs.Lines.{first-none, each-line}
 use Rattle.rules.proofs.Places.{tape-placed}
 use Rattle.rules.proofs.Probes.{rounded-value}
 use Rattle.code.specs.Words.{Runnable}
-use Rattle.code.specs.Runs.{Fit, SampleOk, Evaluated}
+use Rattle.code.specs.Runs.{SampleOk, Evaluated}
 use Rattle.code.specs.Unpacking.{Unpacked}
-use Rattle.code.proofs.WordTapes.{words-run, words-runnable, unpacked-tape, unpacked-accepted}
+use Rattle.code.proofs.WordTapes.{words-runnable, unpacked-tape, unpacked-accepted}
 use Rattle.probe.specs.declared.point.Point as declared-point
 use Rattle.probe.specs.declared.side.Probe.{Probe}
 use Rattle.probe.specs.declared.side.Probe.the-variants.{Inside, Outside, Surface, Refused}
@@ -91,10 +91,7 @@ module _ {s ws ws′ : List ℕ} {k : ℕ} (u : Unpacked s ws ws′ k) (e : read
 
   pub evaluated : {p : Sample} {r : ℤ} → Evaluated (take k ws′) p r → r ≡ valueAt (readTape s .tape) p
   evaluated {p} v =
-      let a = unpacked-accepted s ws ws′ k u e in
-      let f : Fit (readTape s .tape .slots) (take k ws′)
-      = record { slots = a .slots; all = words-run (readTape s .tape .slots) (take k ws′) a } in
-      v .value (readTape s .tape .slots) f ∙ ap (λ t. valueAt t p) (unpacked-tape s ws ws′ k u)
+      v .value (readTape s .tape .slots) (unpacked-accepted s ws ws′ k u e) ∙ ap (λ t. valueAt t p) (unpacked-tape s ws ws′ k u)
 
 -- The sides.
 pub inside : (v : ℤ) {x : Float} → ltZ v (pos 0) ≡ true → x ≡ storedFloat v → Inside x ≡ sideOf v

@@ -11,6 +11,7 @@ use point::rounded_point;
 use side::Probe;
 use side::side_of;
 use tape::CLAUSE_LIMIT;
+use tape::SLOT_LIMIT;
 use tape_check::check_tape;
 ghost use mathlib.Core.Path.{_≡_};
 ghost use Rattle.rules.specs.Values.{firstOf};
@@ -40,7 +41,8 @@ fn run_in(tape: &[u8], s: Sample, words: &mut [u64]) -> i32
     ensures { λ r. ⌜ r ≡ valueAt (readTape (now (tape .entry)) .tape) (sampleIn s) ⌝ }
 {
     let n = unpack_words(tape, words);
-    run_values(&words[..n], s)
+    let mut slots = [0i32; SLOT_LIMIT];
+    run_values(&words[..n], s, &mut slots)
 }
 
 fn run_tape(tape: &[u8], s: Sample) -> i32

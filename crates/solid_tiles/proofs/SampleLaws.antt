@@ -29,7 +29,6 @@ use Rattle.walk.proofs.Draws.{hidden-same, draws-count, draws-hidden, draws-sam
 use Rattle.walk.proofs.Filling.{hidden-sample, fill-sample, raises-same}
 use Rattle.walk.proofs.Children.{part-one}
 use Rattle.walk.proofs.CellLaws.{small, kind}
-use Rattle.walk.proofs.LookLaws.{fit-of}
 use Rattle.solid_tiles.proofs.CellRows.{index-most}
 
 -- A sample's coordinates, handed over as words and taken back.
@@ -100,7 +99,7 @@ module _ (grid : Grid) (x y z : ℕ) (i : InGrid (grid .depth) grid x y z) where
             draws = λ m a.
                 draws-count (length-clauses ws)
                 (draws-sample-empty (hidden-by false (lt-leb _ _ low)) (tapeIn m ws)
-                (ap isNeg (ap (valueAt (tapeIn m ws)) (sym same) ∙ sym (run .value m (fit-of a))) ∙ n));
+                (ap isNeg (ap (valueAt (tapeIn m ws)) (sym same) ∙ sym (run .value m a)) ∙ n));
             bound = omega arith;
           }
 
@@ -117,7 +116,7 @@ module _ (grid : Grid) (x y z : ℕ) (i : InGrid (grid .depth) grid x y z) where
             draws = λ m a.
                 draws-count (length-clauses ws)
                 (draws-sample-full (hidden-by false (lt-leb _ _ low)) (tapeIn m ws)
-                (ap isNeg (ap (valueAt (tapeIn m ws)) (sym same) ∙ sym (run .value m (fit-of a))) ∙ n)
+                (ap isNeg (ap (valueAt (tapeIn m ws)) (sym same) ∙ sym (run .value m a)) ∙ n)
                 (fill-sample {g = gridIn grid true} {z = z} (i .x-in) (i .y-in)
                 (rw (past-z (r .fault)) (raises-same (y * grid .width + x) 1 (z + 1) b (raised b′ h)))));
             bound = omega arith;

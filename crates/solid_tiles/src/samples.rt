@@ -3,21 +3,33 @@ use code::run::run_values;
 use fixed::clause::Sample;
 use picture::grid::Grid;
 use picture::grid::sample;
+use tape::SLOT_LIMIT;
 use walk::cell::Cell;
 ghost use mathlib.Core.Path.{_≡_};
 ghost use mathlib.Core.Bool.{true};
 ghost use mathlib.Core.List.{[]};
 ghost use Prim.Native.Nat.{_*_, _<_};
 ghost use Rattle.rules.specs.Drawings.{region, alongX, alongY, alongZ};
+ghost use Rattle.code.specs.Runs.{Lent};
 ghost use Rattle.walk.specs.Cells.{Ready, InGrid, CellOk};
 ghost use Rattle.walk.specs.Walks.{Sound, Visits, Folds};
 
-fn visit_sample(code: &[u64], grid: Grid, x: u32, y: u32, z: u32, picture: &mut [u16]) -> u64
+fn visit_sample(
+    code: &[u64],
+    grid: Grid,
+    x: u32,
+    y: u32,
+    z: u32,
+    slots: &mut [i32; SLOT_LIMIT],
+    picture: &mut [u16],
+) -> u64
     requires { ⌜ Sound (now code) ⌝ }
     requires { ⌜ Ready true grid (now picture) ⌝ }
     requires { ⌜ InGrid (grid .depth) grid x y z ⌝ }
+    requires { ⌜ Lent (now slots) ⌝ }
     ensures { λ r. ⌜ Visits true 1 (now (code .entry)) grid [] (region x y z 1)
         (now (picture .entry)) (now (picture .exit)) r ⌝ }
+    ensures { λ _. ⌜ Lent (now (slots .exit)) ⌝ }
 {
     let at = (y * grid.width + x) as usize;
     let height = (z + 1) as u16;
@@ -30,7 +42,7 @@ fn visit_sample(code: &[u64], grid: Grid, x: u32, y: u32, z: u32, picture: &mut 
         z: sample(grid.zorigin, grid.zstep, z),
     };
     let count = code.len() as u64;
-    let value = run_values(code, s);
+    let value = run_values(code, s, slots);
     if value < 0 {
         picture[at] = height;
         return count;
@@ -39,41 +51,61 @@ fn visit_sample(code: &[u64], grid: Grid, x: u32, y: u32, z: u32, picture: &mut 
 }
 
 // One row of samples of the parent. Several at once can stand behind this contract.
-fn sample_row(code: &[u64], grid: Grid, parent: Cell, y: u32, z: u32, picture: &mut [u16]) -> u64
+fn sample_row(
+    code: &[u64],
+    grid: Grid,
+    parent: Cell,
+    y: u32,
+    z: u32,
+    slots: &mut [i32; SLOT_LIMIT],
+    picture: &mut [u16],
+) -> u64
     requires { ⌜ Sound (now code) ⌝ }
     requires { ⌜ Ready true grid (now picture) ⌝ }
     requires { ⌜ CellOk (grid .depth) grid parent ⌝ }
     requires { ⌜ (parent .side ≡ 4) × (y < parent .yend) × (z < parent .zend) ⌝ }
+    requires { ⌜ Lent (now slots) ⌝ }
     ensures { λ r. ⌜ Folds true 4 (now (code .entry)) grid [] (alongX 4 (parent .x) y z 1 (parent .xend))
         (now (picture .entry)) (now (picture .exit)) r ⌝ }
+    ensures { λ _. ⌜ Lent (now (slots .exit)) ⌝ }
 {
     let mut count: u64 = 0;
     let mut x = parent.x;
     while x < parent.xend {
-        count += visit_sample(code, grid, x, y, z, picture);
+        count += visit_sample(code, grid, x, y, z, slots, picture);
         x += 1;
     }
     count
 }
 
-fn sample_rows(code: &[u64], grid: Grid, parent: Cell, z: u32, picture: &mut [u16]) -> u64
+fn sample_rows(
+    code: &[u64],
+    grid: Grid,
+    parent: Cell,
+    z: u32,
+    slots: &mut [i32; SLOT_LIMIT],
+    picture: &mut [u16],
+) -> u64
     requires { ⌜ Sound (now code) ⌝ }
     requires { ⌜ Ready true grid (now picture) ⌝ }
     requires { ⌜ CellOk (grid .depth) grid parent ⌝ }
     requires { ⌜ (parent .side ≡ 4) × (z < parent .zend) ⌝ }
+    requires { ⌜ Lent (now slots) ⌝ }
     ensures { λ r. ⌜ Folds true 16 (now (code .entry)) grid []
         (alongY 4 4 (parent .x) (parent .y) z 1 (parent .xend) (parent .yend))
         (now (picture .entry)) (now (picture .exit)) r ⌝ }
+    ensures { λ _. ⌜ Lent (now (slots .exit)) ⌝ }
 {
     let mut count: u64 = 0;
     let mut y = parent.y;
     while y < parent.yend {
-        count += sample_row(code, grid, parent, y, z, picture);
+        count += sample_row(code, grid, parent, y, z, slots, picture);
         y += 1;
     }
     count
 }
 
+// The slots are made once for all samples of the region.
 pub fn sample_layers(code: &[u64], grid: Grid, parent: Cell, picture: &mut [u16]) -> u64
     requires { ⌜ Sound (now code) ⌝ }
     requires { ⌜ Ready true grid (now picture) ⌝ }
@@ -83,11 +115,12 @@ pub fn sample_layers(code: &[u64], grid: Grid, parent: Cell, picture: &mut [u16]
         (alongZ 4 4 (parent .x) (parent .y) (parent .z) 1 (parent .xend) (parent .yend) (parent .zend))
         (now (picture .entry)) (now (picture .exit)) r ⌝ }
 {
+    let mut slots = [0i32; SLOT_LIMIT];
     let mut count: u64 = 0;
     let mut z = parent.zend;
     while parent.z < z {
         z -= 1;
-        count += sample_rows(code, grid, parent, z, picture);
+        count += sample_rows(code, grid, parent, z, &mut slots, picture);
     }
     count
 }

@@ -9,6 +9,7 @@ use Rattle.rules.specs.Drawings.{at}
 use Rattle.rules.proofs.Words.{read, back}
 use Rattle.code.specs.Words.{tapeIn}
 use Rattle.code.specs.Runs.{SampleOk}
+use Rattle.code.proofs.RunLaws.{fresh-slots}
 use Rattle.picture.proofs.GridWords.{InWords, in-words, at-read}
 use Rattle.full_drawing.specs.Full.{sampleIn}
 use Rattle.full_drawing.proofs.Materials.{same-sample, says}
@@ -35,7 +36,7 @@ at-struct-told c = c .before .before
 abbrev at-sample : tie.After-sample2 → tie.After-sample
 at-sample c = c .before .before .before
 
-abbrev at-sample2 : tie.After-run-values → tie.After-sample2
+abbrev at-sample2 : tie.After-slots → tie.After-sample2
 at-sample2 c = c .before
 
 x-is : (c : tie.After-sample)
@@ -68,17 +69,19 @@ sample-is c =
 
 run-values-requires : tie.Need-run-values-requires
 run-values-requires c κs =
-    let s = at-start (at-struct-told (at-sample c)) in
-    (s .pre .0, subst SampleOk (sym (sample-is c)) (s .pre .1))
+    let t = at-sample2 c in
+    let s = at-start (at-struct-told (at-sample t)) in
+    (s .pre .0, (subst SampleOk (sym (sample-is t)) (s .pre .1), fresh-slots))
 
 returns : tie.Need-returns
 returns c =
-    let a = at-start (at-struct-told (at-sample (at-sample2 c))) .args in
+    let t = at-sample2 (c .before) in
+    let a = at-start (at-struct-told (at-sample t)) .args in
     record {
       material = λ n f.
           says (tapeIn n (now (a .code)))
           (toZ-ofZ {w = w32} {z = c .run-values .result} (record { sfits = c .run-values .ok }))
-          (c .run-values .ensures .value n f) (sample-is (c .before));
+          (c .run-values .ensures .0 .value n f) (sample-is t);
     }
 
 pub has-material-spec : {M : Type 1} → statement M

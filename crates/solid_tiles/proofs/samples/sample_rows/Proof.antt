@@ -3,6 +3,7 @@ use mathlib.Core.Bool.{true}
 use mathlib.Core.List.{[]}
 use Prim.Native.Nat.{_-_}
 use native.Mathlib.Omega.{arith}
+use Rattle.code.specs.Runs.{Lent}
 use Rattle.walk.proofs.CellLaws.{small}
 use Rattle.walk.proofs.LookLaws.{sound-length}
 use Rattle.walk.proofs.Loops.{AtRow, rows-begin, rows-again, rows-done}
@@ -11,12 +12,12 @@ use Rattle.solid_tiles.proofs.samples.sample_rows.Statement.{statement}
 use Rattle.solid_tiles.proofs.samples.sample_rows.Tie as tie
 
 abbrev Inv-loop : tie.InvT-loop
-Inv-loop code grid parent z picture₀ count₀ y₀ picture count y =
-    AtRow true 1 4 4 code grid []
-    (parent .x) (parent .xend) (parent .y) (parent .yend) z picture₀ picture count y
+Inv-loop code grid parent z slots₀ picture₀ count₀ y₀ slots picture count y =
+    AtRow true 1 4 4 code grid [] (parent .x) (parent .xend) (parent .y) (parent .yend) z picture₀ picture count y
+    × Lent slots
 
 abbrev μ-loop : tie.MeasureT-loop
-μ-loop code grid parent z picture₀ count₀ y₀ picture count y = parent .yend - y
+μ-loop code grid parent z slots₀ picture₀ count₀ y₀ slots picture count y = parent .yend - y
 
 -- The places: the start, the loop, a turn of it, after the call, and past the loop.
 abbrev begun : tie.After-slice-known Inv-loop μ-loop → tie.Start Inv-loop μ-loop
@@ -28,8 +29,8 @@ start c = begun (c .before)
 abbrev at-test : tie.Then1 Inv-loop μ-loop → tie.At-loop Inv-loop μ-loop
 at-test c = c .before .before
 
-abbrev in-turn : tie.After-sample-row-arg Inv-loop μ-loop → tie.Then1 Inv-loop μ-loop
-in-turn c = c .before
+abbrev in-turn : tie.After-sample-row-arg2 Inv-loop μ-loop → tie.Then1 Inv-loop μ-loop
+in-turn c = c .before .before
 
 abbrev called : tie.After-slice-known2 Inv-loop μ-loop → tie.After-sample-row Inv-loop μ-loop
 called c = c .before .before
@@ -40,7 +41,7 @@ past c = c .before .before
 loop-holds : tie.Need-loop-holds Inv-loop μ-loop
 loop-holds c =
     let p = begun c .pre .1 .1 in
-    rows-begin _ (omega arith) (omega arith)
+    (rows-begin _ (omega arith) (omega arith), p .1 .1)
 
 sample-row-requires : tie.Need-sample-row-requires Inv-loop μ-loop
 sample-row-requires c κs =
@@ -48,14 +49,14 @@ sample-row-requires c κs =
     let i = at-test t .loop .inv in
     let s = start (at-test t) in
     let p = s .pre .1 .1 in
-    let again = ready-again (s .pre .1 .0) (i .place .size) in
-    (s .pre .0, (again, (p .0, (p .1 .0, t .if1 .taken, p .1 .1))))
+    let again = ready-again (s .pre .1 .0) (i .0 .place .size) in
+    (s .pre .0, (again, (p .0, ((p .1 .0 .0, t .if1 .taken, p .1 .0 .1), i .1))))
 
 add-count : tie.Need-add-count Inv-loop μ-loop
 add-count c =
     let t = in-turn (called c .before) in
     let l = at-test t in
-    let sum = up-sum (l .loop .inv .place) (t .if1 .taken) (called c .sample-row .ensures .bound) in
+    let sum = up-sum (l .loop .inv .0 .place) (t .if1 .taken) (called c .sample-row .ensures .0 .bound) in
     omega (arith, sound-length (start l .pre .0), sum)
 
 add-y : tie.Need-add-y Inv-loop μ-loop
@@ -73,14 +74,16 @@ loop-again c =
     let v = called c .sample-row in
     let t = in-turn (called c .before) in
     let i = at-test t .loop .inv in
-    let kept = v .kept .1 .1 .1 .1 .1 in
-    rows-again i (t .if1 .taken) (v .ensures) (kept .0)
+    let kept = v .kept .1 .1 .1 .1 .1 .1 in
+    (rows-again (i .0) (t .if1 .taken) (v .ensures .0) (kept .0), v .ensures .1)
 
 same-length : tie.Need-same-length Inv-loop μ-loop
-same-length c = past c .loop .inv .place .size
+same-length c = past c .loop .inv .0 .place .size
 
 returns : tie.Need-returns Inv-loop μ-loop
-returns c = rows-done (past c .loop .inv) (omega arith) (omega arith)
+returns c =
+    let i = past c .loop .inv in
+    (rows-done (i .0) (omega arith) (omega arith), i .1)
 
 pub sample-rows-spec : {M : Type 1} → statement M
 sample-rows-spec =

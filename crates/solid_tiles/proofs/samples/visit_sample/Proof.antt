@@ -62,7 +62,7 @@ made c =
     let u = y .before .before .before .sample in
     let v = y .sample2 in
     let w = c .sample3 in
-    sample-same _ _ _ _ (s .pre .1 .1) (s .pre .1 .0 .fault) _
+    sample-same _ _ _ _ (s .pre .1 .1 .0) (s .pre .1 .0 .fault) _
     (back w32 _ (u .ok) (u .ensures ∙ at-words _ (f .xorigin) (f .xstep)))
     (back w32 _ (v .ok) (v .ensures ∙ at-words _ (f .yorigin) (f .ystep)))
     (back w32 _ (w .ok) (w .ensures ∙ at-words _ (f .zorigin) (f .zstep)))
@@ -73,13 +73,13 @@ low : (c : tie.After-sample3)
 low c = omega (arith, to-z (c .before) .before .if1 .left)
 
 mul-at : tie.Need-mul-at
-mul-at c = let s = begun c in omega (arith, pixel-most _ _ _ _ (s .pre .1 .1) (s .pre .1 .0 .fault))
+mul-at c = let s = begun c in omega (arith, pixel-most _ _ _ _ (s .pre .1 .1 .0) (s .pre .1 .0 .fault))
 
 add-at : tie.Need-add-at
-add-at c = let s = begun c in omega (arith, pixel-most _ _ _ _ (s .pre .1 .1) (s .pre .1 .0 .fault))
+add-at c = let s = begun c in omega (arith, pixel-most _ _ _ _ (s .pre .1 .1 .0) (s .pre .1 .0 .fault))
 
 cast-at : tie.Need-cast-at
-cast-at c = let s = begun c in omega (arith, pixel-most _ _ _ _ (s .pre .1 .1) (s .pre .1 .0 .fault))
+cast-at c = let s = begun c in omega (arith, pixel-most _ _ _ _ (s .pre .1 .1 .0) (s .pre .1 .0 .fault))
 
 add-height : tie.Need-add-height
 add-height c = search needs
@@ -88,49 +88,54 @@ cast-height : tie.Need-cast-height
 cast-height c =
     let s = begun c in
     let d = small true _ (s .pre .1 .0 .fault) in
-    let h = s .pre .1 .1 .z-in in
+    let h = s .pre .1 .1 .0 .z-in in
     omega arith
 
 mul-if1 : tie.Need-mul-if1
-mul-if1 c = let s = begun c in omega (arith, pixel-most _ _ _ _ (s .pre .1 .1) (s .pre .1 .0 .fault))
+mul-if1 c = let s = begun c in omega (arith, pixel-most _ _ _ _ (s .pre .1 .1 .0) (s .pre .1 .0 .fault))
 
 slice-read-if1 : tie.Need-slice-read-if1
-slice-read-if1 c = let s = at-test c in pixel-in _ _ _ _ (s .pre .1 .1) (s .pre .1 .0 .fault) (s .pre .1 .0)
+slice-read-if1 c = let s = at-test c in pixel-in _ _ _ _ (s .pre .1 .1 .0) (s .pre .1 .0 .fault) (s .pre .1 .0)
 
 returns : tie.Need-returns
 returns c =
-    let s = at-test (c .before) in sample-hidden _ _ _ _ (s .pre .1 .1) (s .pre .1 .0) (s .pre .0) (omega arith)
+    let s = at-test (c .before) in
+    (sample-hidden _ _ _ _ (s .pre .1 .1 .0) (s .pre .1 .0) (s .pre .0) (omega arith), s .pre .1 .1 .1)
 
 sample-requires : tie.Need-sample-requires
 sample-requires c κs =
     let t = c .before in
     let f = told t in
-    rw (at-words _ (f .xorigin) (f .xstep)) (x-value _ _ _ _ (seen t .pre .1 .1) (seen t .pre .1 .0 .fault))
+    rw (at-words _ (f .xorigin) (f .xstep)) (x-value _ _ _ _ (seen t .pre .1 .1 .0) (seen t .pre .1 .0 .fault))
 
 sample-requires-2 : tie.Need-sample-requires-2
 sample-requires-2 c κs =
     let t = to-y c in
     let f = told t in
-    rw (at-words _ (f .yorigin) (f .ystep)) (y-value _ _ _ _ (seen t .pre .1 .1) (seen t .pre .1 .0 .fault))
+    rw (at-words _ (f .yorigin) (f .ystep)) (y-value _ _ _ _ (seen t .pre .1 .1 .0) (seen t .pre .1 .0 .fault))
 
 sample-requires-3 : tie.Need-sample-requires-3
 sample-requires-3 c κs =
     let t = to-z c in
     let f = told t in
     let p = seen t .pre .1 in
-    rw (at-words _ (f .zorigin) (f .zstep)) (z-value _ _ _ _ (p .1) (p .0 .fault))
+    rw (at-words _ (f .zorigin) (f .zstep)) (z-value _ _ _ _ (p .1 .0) (p .0 .fault))
 
 run-values-requires : tie.Need-run-values-requires
 run-values-requires c κs =
-    (sound-runs (start c .pre .0), sample-ok _ _ _ _ (start c .pre .1 .1) (start c .pre .1 .0 .fault) _ (made c))
+    let t = c .before in
+    let p = start t .pre in (
+      sound-runs (p .0),
+      (sample-ok _ _ _ _ (p .1 .1 .0) (p .1 .0 .fault) _ (made t), p .1 .1 .1),
+    )
 
 mul-picture : tie.Need-mul-picture
 mul-picture c =
-    let s = start (c .before .before) in omega (arith, pixel-most _ _ _ _ (s .pre .1 .1) (s .pre .1 .0 .fault))
+    let s = start (c .before .before .before) in omega (arith, pixel-most _ _ _ _ (s .pre .1 .1 .0) (s .pre .1 .0 .fault))
 
 slice-write-picture : tie.Need-slice-write-picture
 slice-write-picture c =
-    let s = start (c .before .before) in pixel-in _ _ _ _ (s .pre .1 .1) (s .pre .1 .0 .fault) (s .pre .1 .0)
+    let s = start (c .before .before .before) in pixel-in _ _ _ _ (s .pre .1 .1 .0) (s .pre .1 .0 .fault) (s .pre .1 .0)
 
 same-length : tie.Need-same-length
 same-length c = search needs
@@ -138,18 +143,23 @@ same-length c = search needs
 returns-2 : tie.Need-returns-2
 returns-2 c =
     let v = c .before .run-values in
-    let t = c .before .before in
+    let t = c .before .before .before in
     let s = start t in
-    sample-fills _ _ _ _ (s .pre .1 .1) (s .pre .1 .0) (s .pre .0) (low t) _ (made t) _ (v .ensures)
-    (sign (v .result) (v .result) _ (record { sfits = v .ok }) (c .if2 .taken) refl) _ refl
+    let negative = sign (v .result) (v .result) _ (record { sfits = v .ok }) (c .if2 .taken) refl in (
+      sample-fills _ _ _ _ (s .pre .1 .1 .0) (s .pre .1 .0) (s .pre .0) (low t) _ (made t) _ (v .ensures .0) negative _
+          refl,
+      v .ensures .1,
+    )
 
 returns-3 : tie.Need-returns-3
 returns-3 c =
     let v = c .before .run-values in
-    let t = c .before .before in
+    let t = c .before .before .before in
     let s = start t in
-    sample-skips _ _ _ _ (s .pre .1 .1) (s .pre .1 .0) (s .pre .0) (low t) _ (made t) _ (v .ensures)
-    (sign (v .result) (v .result) _ (record { sfits = v .ok }) (c .if2 .left) refl)
+    let negative = sign (v .result) (v .result) _ (record { sfits = v .ok }) (c .if2 .left) refl in (
+      sample-skips _ _ _ _ (s .pre .1 .1 .0) (s .pre .1 .0) (s .pre .0) (low t) _ (made t) _ (v .ensures .0) negative,
+      v .ensures .1,
+    )
 
 pub visit-sample-spec : {M : Type 1} → statement M
 visit-sample-spec =
