@@ -1,5 +1,5 @@
 // Side 1: the samples of a region of side 8, a row of at most 8 in one sweep and stored as one byte.
-use picture::bits::paint_row;
+use picture::bits::store_row;
 use picture::bits::with_pixel;
 use picture::grid::Grid;
 use picture::grid::sample;
@@ -16,6 +16,7 @@ ghost use Rattle.rules.specs.Drawings.{sizeLimit, gridFault, alongX, alongY};
 ghost use Rattle.rules.specs.Accepted.{Accepted};
 ghost use Rattle.code.specs.Words.{tapeIn};
 ghost use Rattle.picture.specs.Bits.{rowByte};
+ghost use Rattle.picture.specs.Parts.{Blank, Apart};
 ghost use Rattle.picture.specs.Shapes.{gridIn};
 ghost use Rattle.walk.specs.Cells.{Ready, CellOk, SpanIn};
 ghost use Rattle.walk.specs.Walks.{Sound, Folds};
@@ -100,12 +101,15 @@ fn sample_row(
     requires { ⌜ (parent .side ≡ 8) × (parent .x % 8 ≡ 0) × (y < parent .yend) ⌝ }
     requires { ⌜ LaneSamples (grid .xorigin) (grid .xstep) (parent .x) (parent .xend) xs ⌝ }
     requires { ⌜ length (now slots) ≡ slotLimit ⌝ }
+    requires { ⌜ Blank (grid .width) (parent .x) (parent .x + 8) y (y + 1) (now picture) ⌝ }
     ensures { λ r. ⌜ Folds false 8 (now (code .entry)) grid [] (alongX 8 (parent .x) y 0 1 (parent .xend))
         (now (picture .entry)) (now (picture .exit)) r ⌝ }
     ensures { λ _. ⌜ length (now (slots .exit)) ≡ slotLimit ⌝ }
+    ensures { λ _. ⌜ Apart (grid .width) (parent .x) (parent .x + 8) y (y + 1) (now (picture .entry))
+        (now (picture .exit)) ⌝ }
 {
     let byte = row_byte(code, grid, parent, xs, y, slots);
-    paint_row(
+    store_row(
         picture,
         grid.width as usize,
         parent.x as usize,
@@ -115,21 +119,31 @@ fn sample_row(
     (parent.xend - parent.x) as u64 * code.len() as u64
 }
 
-pub fn sample_rows(code: &[u64], grid: Grid, parent: Cell, picture: &mut [u8]) -> u64
+pub fn sample_rows(
+    code: &[u64],
+    grid: Grid,
+    parent: Cell,
+    slots: &mut [[i32; 8]; SLOT_LIMIT],
+    picture: &mut [u8],
+) -> u64
     requires { ⌜ Sound (now code) ⌝ }
     requires { ⌜ Ready false grid (now picture) ⌝ }
     requires { ⌜ CellOk 1 grid parent ⌝ }
     requires { ⌜ (parent .side ≡ 8) × (parent .x % 8 ≡ 0) ⌝ }
+    requires { ⌜ length (now slots) ≡ slotLimit ⌝ }
+    requires { ⌜ Blank (grid .width) (parent .x) (parent .x + 8) (parent .y) (parent .y + 8) (now picture) ⌝ }
     ensures { λ r. ⌜ Folds false 64 (now (code .entry)) grid []
         (alongY 8 8 (parent .x) (parent .y) 0 1 (parent .xend) (parent .yend))
         (now (picture .entry)) (now (picture .exit)) r ⌝ }
+    ensures { λ _. ⌜ length (now (slots .exit)) ≡ slotLimit ⌝ }
+    ensures { λ _. ⌜ Apart (grid .width) (parent .x) (parent .x + 8) (parent .y) (parent .y + 8)
+        (now (picture .entry)) (now (picture .exit)) ⌝ }
 {
     let xs = lane_samples(grid.xorigin, grid.xstep, parent.x, parent.xend);
-    let mut slots = [[0i32; 8]; SLOT_LIMIT];
     let mut count: u64 = 0;
     let mut y = parent.y;
     while y < parent.yend {
-        count += sample_row(code, grid, parent, xs, y, &mut slots, picture);
+        count += sample_row(code, grid, parent, xs, y, slots, picture);
         y += 1;
     }
     count
