@@ -10,7 +10,9 @@ ghost use mathlib.Core.Path.{_≡_};
 ghost use mathlib.Core.Bool.{false};
 ghost use mathlib.Core.List.{[]};
 ghost use Prim.Native.Nat.{ℕ, _+_, _-_, _%_, _<_, _≤_};
+ghost use lib.Dec.{ltb};
 ghost use lib.ListN.{length};
+ghost use Rattle.rules.specs.Values.{pick, isNeg};
 ghost use Rattle.rules.specs.Tapes.{slotLimit};
 ghost use Rattle.rules.specs.Drawings.{sizeLimit, gridFault, alongX, alongY};
 ghost use Rattle.rules.specs.Accepted.{Accepted};
@@ -46,15 +48,23 @@ fn lane_samples(origin: i32, step: i32, from: u32, end: u32) -> [i32; 8]
     r
 }
 
-// The signs of the first lanes, the first in the highest bit: 1 is below 0.
+// Whether a lane's sample has material: its value is below 0. A lane past the row's last sample has none.
+fn lane_on(v: i32, k: u32, count: u32) -> bool
+    ensures { λ r. ⌜ r ≡ pick (ltb k count) (isNeg v) false ⌝ }
+{
+    if k < count { v < 0 } else { false }
+}
+
+// The signs of the first lanes, the first in the highest bit: 1 is below 0. Each turn has its own constant place, so
+// that the lanes are taken several at once.
 fn sign_byte(row: [i32; 8], count: u32) -> u8
     requires { ⌜ count ≤ 8 ⌝ }
     ensures { λ r. ⌜ SignByte count row r ⌝ }
 {
     let mut byte = 0u8;
     let mut k = 0u32;
-    while k < count {
-        byte = with_pixel(byte, k, row[k as usize] < 0);
+    while k < 8 {
+        byte = with_pixel(byte, k, lane_on(row[k as usize], k, count));
         k += 1;
     }
     byte
