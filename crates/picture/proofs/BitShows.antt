@@ -17,8 +17,8 @@ use Rattle.rules.specs.Drawings.{raiseRow, raiseRows}
 use Rattle.rules.specs.Pictures.{stride, byteOf, rowBytes, bitsOf}
 use Rattle.picture.specs.Bits.{bit, pixel, rowByte, markRow, markAt, Within, Marked, StoredRow, Shows}
 use Rattle.picture.proofs.BitBytes.{bit-zero, row-byte-bits}
-use Rattle.picture.proofs.BitMarks.{marked-byte, mark-none, mark-off, mark-apart, mark-in, mark-past, mark-append}
-use Rattle.picture.proofs.BitMarks.{mark-place}
+use Rattle.picture.proofs.BitMarks.{marked-byte, mark-none, mark-off, mark-apart, mark-in, mark-past}
+use Rattle.picture.proofs.BitMarks.{mark-append, mark-place}
 
 -- Heights after a row of samples.
 abbrev raised : ℕ → List ℕ → List ℕ

@@ -59,7 +59,8 @@ visit-eight-requires c κs =
     let p = s .pre .1 .1 in
     let k = p .0 .xs in
     let o = i .0 .place .place in
-    let b = blank-behind {xend = at-test t .loop .x + 8} (omega arith) (omega (arith, t .if1 .taken)) (i .5) (p .1 .1 .1 .1) in
+    let b = blank-behind {xend = at-test t .loop .x + 8} (omega arith) (omega (arith, t .if1 .taken)) (i .5)
+    (p .1 .1 .1 .1) in
     let r = ready-again (s .pre .1 .0) (i .0 .place .size) in (
       s .pre .0,
       (

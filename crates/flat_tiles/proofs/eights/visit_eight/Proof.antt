@@ -115,7 +115,10 @@ sample-rows-requires c κs =
       search (short, p .0 .sound),
       (
         ready-again (p .1 .0) (j .look .kept .1 .1 .1 .1 .1 .0),
-        (made k .ok, ((side, begins k), (l .1 .0, cell-blank (k .cell-at .result) (made k .same) (opened t .same) (l .1 .1)))),
+        (
+          made k .ok,
+          ((side, begins k), (l .1 .0, cell-blank (k .cell-at .result) (made k .same) (opened t .same) (l .1 .1))),
+        ),
       ),
     )
 
@@ -124,7 +127,8 @@ add-result c =
     let u = visited c in
     let t = in-cut (u .before) in
     let s = start (with-cell (looked t)) in
-    omega (arith, sound-length (s .pre .0 .sound), open-fewer (s .pre .0 .sound) (opened t), u .sample-rows .ensures .0 .bound)
+    let w = s .pre .0 .sound in
+    omega (arith, sound-length w, open-fewer w (opened t), u .sample-rows .ensures .0 .bound)
 
 same-length : tie.Need-same-length
 same-length c = search needs
@@ -164,7 +168,8 @@ returns-2 c =
           (u .sample-rows .ensures .0),
       (
         u .sample-rows .ensures .1 .0,
-        apart-then (side-apart (k .cell-at .result) e (j .look .ensures .1)) (cell-apart (k .cell-at .result) e (u .sample-rows .ensures .1 .1)),
+        apart-then (side-apart (k .cell-at .result) e (j .look .ensures .1))
+            (cell-apart (k .cell-at .result) e (u .sample-rows .ensures .1 .1)),
       ),
     )
 

@@ -54,8 +54,17 @@ past c = c .before .before
 loop-holds : tie.Need-loop-holds Inv-loop μ-loop
 loop-holds c =
     let p = begun c .pre .1 in
-    let d = ready-small (p .0) in
-    (row-begins _ (omega arith) (omega arith), refl, refl, refl, refl, refl, p .1 .1 .1 .1 .0, omega arith, apart-none _ _ _ _ _ _)
+    let d = ready-small (p .0) in (
+      row-begins _ (omega arith) (omega arith),
+      refl,
+      refl,
+      refl,
+      refl,
+      refl,
+      p .1 .1 .1 .1 .0,
+      omega arith,
+      apart-none _ _ _ _ _ _,
+    )
 
 visit-tile-requires : tie.Need-visit-tile-requires Inv-loop μ-loop
 visit-tile-requires c κs =
@@ -64,7 +73,8 @@ visit-tile-requires c κs =
     let s = start (at-test t) in
     let p = s .pre .1 .1 in
     let o = i .0 .place .place in
-    let b = blank-behind {xend = at-test t .loop .x + 64} (omega arith) (omega (arith, t .if1 .taken)) (i .8) (p .1 .1 .1 .1) in
+    let b = blank-behind {xend = at-test t .loop .x + 64} (omega arith) (omega (arith, t .if1 .taken)) (i .8)
+    (p .1 .1 .1 .1) in
     let r = ready-again (s .pre .1 .0) (i .0 .place .size) in (
       s .pre .0,
       (

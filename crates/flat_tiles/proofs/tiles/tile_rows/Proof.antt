@@ -55,8 +55,17 @@ past c = c .before .before
 loop-holds : tie.Need-loop-holds Inv-loop μ-loop
 loop-holds c =
     let p = begun c .pre .1 in
-    let d = ready-small (p .0) in
-    (rows-begin _ (omega arith) (omega arith), refl, refl, refl, refl, refl, p .1 .1 .1 .0, omega arith, apart-none _ _ _ _ _ _)
+    let d = ready-small (p .0) in (
+      rows-begin _ (omega arith) (omega arith),
+      refl,
+      refl,
+      refl,
+      refl,
+      refl,
+      p .1 .1 .1 .0,
+      omega arith,
+      apart-none _ _ _ _ _ _,
+    )
 
 tile-row-requires : tie.Need-tile-row-requires Inv-loop μ-loop
 tile-row-requires c κs =
@@ -65,7 +74,8 @@ tile-row-requires c κs =
     let s = start (at-test t) in
     let p = s .pre .1 .1 in
     let o = i .0 .place .place in
-    let b = blank-below {yend = at-test t .loop .y + 64} (omega arith) (omega (arith, t .if1 .taken)) (i .8) (p .1 .1 .1) in
+    let b = blank-below {yend = at-test t .loop .y + 64} (omega arith) (omega (arith, t .if1 .taken)) (i .8)
+    (p .1 .1 .1) in
     let r = ready-again (s .pre .1 .0) (i .0 .place .size) in (
       s .pre .0,
       (

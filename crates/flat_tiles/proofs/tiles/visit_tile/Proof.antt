@@ -133,7 +133,10 @@ eight-rows-requires c κs =
           made k .ok,
           (
             (side, begins k),
-            ((omega arith, omega arith, omega arith), (q .0, cell-blank (k .cell-at .result) (made k .same) (opened t .same) (q .1))),
+            (
+              (omega arith, omega arith, omega arith),
+              (q .0, cell-blank (k .cell-at .result) (made k .same) (opened t .same) (q .1)),
+            ),
           ),
         ),
       ),
@@ -144,7 +147,8 @@ add-result c =
     let u = visited c in
     let t = in-cut (u .before) in
     let s = start (with-cell (looked t)) in
-    omega (arith, sound-length (s .pre .0 .sound), open-fewer (s .pre .0 .sound) (opened t), u .eight-rows .ensures .0 .bound)
+    let w = s .pre .0 .sound in
+    omega (arith, sound-length w, open-fewer w (opened t), u .eight-rows .ensures .0 .bound)
 
 same-length : tie.Need-same-length
 same-length c = search needs
@@ -187,7 +191,8 @@ returns-2 c =
           (u .eight-rows .ensures .0),
       (
         u .eight-rows .ensures .1 .0,
-        apart-then (side-apart (k .cell-at .result) e (j .look .ensures .1)) (cell-apart (k .cell-at .result) e (u .eight-rows .ensures .1 .1)),
+        apart-then (side-apart (k .cell-at .result) e (j .look .ensures .1))
+            (cell-apart (k .cell-at .result) e (u .eight-rows .ensures .1 .1)),
       ),
     )
 
