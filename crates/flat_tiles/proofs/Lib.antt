@@ -3,4 +3,5 @@ pub mod SampleLaws
 pub mod SampleRows
 pub mod SignRows
 pub mod CellRows
+pub mod CellParts
 pub mod WalkLaws

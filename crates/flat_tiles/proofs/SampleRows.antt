@@ -2,20 +2,23 @@
 use mathlib.Core.Path.{_≡_, refl, sym, ap, _∙_}
 use mathlib.Core.Bool.{Bool, true, false}
 use mathlib.Core.List.{List, [], _∷_, _++_}
-use Prim.Native.Nat.{ℕ, zero, suc, _+_, _-_, _*_, _≤_, _<_}
+use Prim.Native.Nat.{ℕ, zero, suc, _+_, _-_, _*_, _/_, _%_, _≤_, _<_}
 use native.Mathlib.Nat.{add-zero, sub-self, add-sub-cancel-left, mul-le-mul-right}
 use native.Mathlib.Omega.{arith}
 use lib.ListN.{length}
 use Rattle.rules.specs.Values.{pick}
 use Rattle.rules.specs.Tapes.{Tape, material}
 use Rattle.rules.specs.Drawings as D
+use Rattle.rules.specs.Pictures.{stride}
 use Rattle.rules.proofs.Visit.{visit-sample}
 use Rattle.rules.specs.Accepted.{Accepted}
 use Rattle.code.specs.Words.{tapeIn}
 use Rattle.code.proofs.WordTapes.{length-clauses}
-use Rattle.picture.specs.Bits.{rowByteFrom, rowByte, markRow, Shows}
+use Rattle.picture.specs.Bits.{rowByteFrom, rowByte, markRow, StoredRow, Shows}
+use Rattle.picture.specs.Parts.{Blank}
 use Rattle.picture.specs.Shapes.{gridIn}
 use Rattle.picture.specs.declared.grid.Grid.{Grid}
+use Rattle.picture.proofs.BitShows.{stored-shows}
 use Rattle.walk.specs.Cells.{CellOk}
 use Rattle.walk.specs.Walks.{Folds}
 use Rattle.walk.specs.declared.cell.Cell.{Cell}
@@ -109,10 +112,20 @@ module _ (t : Tape) (grid : Grid) (y : ℕ) (l : y < grid .height) where
       ∙ ap (λ q. D.state (markRow q (materials m t (flatIn grid) (suc x) y) h) (s .clauses + n + m * n)) v
       ∙ ap (λ c. D.state (markRow (suc p) (materials m t (flatIn grid) (suc x) y) h) c) w
 
--- A row of a region of side 8, by its byte and what painting the byte does.
+-- A row of a region of side 8, by its byte and what storing the byte does.
 module _ {grid : Grid} {c : Cell} (k : CellOk 1 grid c) (eight : c .side ≡ 8) where
   row-wide : c .xend - c .x ≤ 8
   row-wide = omega (arith, k .xs, eight)
+
+  -- Where there was nothing, the byte's samples are marked.
+  pub row-stored : (y byte : ℕ) {b b′ : List ℕ} → c .x % 8 ≡ 0
+      → Blank (grid .width) (c .x) (c .x + 8) y (y + 1) b → StoredRow (grid .width) (c .x) y byte b b′
+      → (n : ℕ) (h : List ℕ) (bs : List Bool) → length bs ≤ 8 → c .x + length bs ≤ grid .width → byte ≡ rowByte bs
+      → Shows (grid .width) n b h → Shows (grid .width) n b′ (markRow (y * grid .width + c .x) bs h)
+  row-stored y byte {b} {b′} d none r n h bs l m e s =
+      let u : c .x / 8 < stride (grid .width) = omega (arith, k .xs) in
+      stored-shows (grid .width) n (c .x) y byte bs b b′ h d l m e
+      (none .bytes y (c .x / 8) u (omega (arith, d))) r s
 
   pub row-folds : (ws : List ℕ) (y byte : ℕ) {b b′ : List ℕ} → y < c .yend
       → ((n : ℕ) → Accepted (tapeIn n ws)

@@ -1,15 +1,17 @@
 -- A row of samples in lanes: each lane's sign is the sample's material, and the signs make the row's byte.
 use mathlib.Core.Path.{_≡_, refl, sym, ap, _∙_}
-use mathlib.Core.Bool.{Bool, false}
+use mathlib.Core.Bool.{Bool, true, false}
 use mathlib.Core.List.{List, [], _∷_, _++_}
 use lib.IntN.{ℤ}
-use lib.ListN.{length, getD, take}
-use lib.Seq.{take-suc, take-all, length-take-le}
-use Prim.Native.Nat.{ℕ, zero, suc, _+_, _-_, _≤_, _<_}
+use lib.Dec.{ltb}
+use lib.ListN.{length, getD, take, replicate, length-append, List·getD-eq-default}
+use lib.Seq.{take-suc, length-take-le}
+use borrow.Author.Tests.{ltb-true, ltb-false}
+use Prim.Native.Nat.{ℕ, zero, suc, _+_, _-_, _^_, _≤_, _<_}
 use native.Mathlib.Nat.{add-zero}
 use native.Mathlib.Numerals.{add-one}
 use native.Mathlib.Omega.{arith}
-use Rattle.rules.specs.Values.{isNeg}
+use Rattle.rules.specs.Values.{pick, when, isNeg}
 use Rattle.rules.specs.Tapes.{Tape, material, valueAt}
 use Rattle.rules.specs.Drawings as D
 use Rattle.rules.specs.Accepted.{Accepted}
@@ -25,34 +27,72 @@ use Rattle.flat_tiles.specs.Rows.{materials, LaneSamples, SignsAre, Sign
 use Rattle.flat_tiles.proofs.SampleRows.{materials-length}
 use Rattle.flat_tiles.proofs.SampleLaws.{sample-is, sample-ok}
 
--- The byte of the first k signs of n.
+-- Samples past the last one, all without material, leave a row's byte as it is.
+none-on : (n m : ℕ) → rowByteFrom n (replicate m false) ≡ 0
+unfolding rowByteFrom
+none-on zero m = refl
+none-on (suc n) zero = refl
+none-on (suc n) (suc m) = omega (arith, none-on n m)
+
+row-wide : (n m : ℕ) (bs : List Bool) → rowByteFrom n (bs ++ replicate m false) ≡ rowByteFrom n bs
+unfolding rowByteFrom
+row-wide n m [] = none-on n m ∙ sym (none-on n 0)
+row-wide zero m (b ∷ bs) = refl
+row-wide (suc n) m (b ∷ bs) = ap (λ x. when b (2 ^ n) + x) (row-wide n m bs)
+
+row-first : (n : ℕ) (bs : List Bool) → rowByteFrom n (take n bs) ≡ rowByteFrom n bs
+unfolding rowByteFrom
+row-first zero bs = refl
+row-first (suc n) [] = refl
+row-first (suc n) (b ∷ bs) = ap (λ x. when b (2 ^ n) + x) (row-first n bs)
+
+abbrev wide : List Bool → List Bool
+wide bs = bs ++ replicate 8 false
+
+wide-at : (bs : List Bool) (m k : ℕ) → getD (bs ++ replicate m false) k false ≡ getD bs k false
+wide-at [] zero k = refl
+wide-at [] (suc m) zero = refl
+wide-at [] (suc m) (suc k) = wide-at [] m k
+wide-at (b ∷ bs) m zero = refl
+wide-at (b ∷ bs) m (suc k) = wide-at bs m k
+
+-- The byte of the first k of eight lanes, of which n have a sample.
 pub record SignsSoFar (n : ℕ) (vs : List ℤ) (b k : ℕ) : Type 0 where
-  pub within : k ≤ n
-  pub byte : (bs : List Bool) → SignsAre n vs bs → b ≡ rowByte (take k bs)
+  pub within : k ≤ 8
+  pub byte : (bs : List Bool) → SignsAre n vs bs → b ≡ rowByte (take k (wide bs))
 
 pub no-signs : (n : ℕ) (vs : List ℤ) → SignsSoFar n vs 0 0
 unfolding rowByteFrom
 no-signs n vs = record { within = omega arith; byte = λ bs s. refl }
 
+lane-bit : {n : ℕ} {vs : List ℤ} (k : ℕ) {bs : List Bool} → SignsAre n vs bs
+    → pick (ltb k n) (isNeg (lane vs k)) false ≡ getD bs k false
+lane-bit {n} {vs} k {bs} s = by (ltb k n) refl
+  where
+    by : (t : Bool) → ltb k n ≡ t → pick t (isNeg (lane vs k)) false ≡ getD bs k false
+    by true e = s .here k (ltb-true k n e)
+    by false e = sym (List·getD-eq-default bs false (omega (arith, s .count, ltb-false k n e)))
+
 module _ {n : ℕ} {vs : List ℤ} {b k : ℕ} (i : SignsSoFar n vs b k) where
-  pub one-sign : k < n → (on : Bool) (b′ : ℕ) → isNeg (lane vs k) ≡ on
+  pub one-sign : k < 8 → (on : Bool) (b′ : ℕ) → on ≡ pick (ltb k n) (isNeg (lane vs k)) false
       → ((bs : List Bool) → length bs ≡ k → b ≡ rowByte bs → b′ ≡ rowByte (bs ++ (on ∷ [])))
       → SignsSoFar n vs b′ (k + 1)
   one-sign h on b′ e f = record { within = omega arith; byte = made }
     where
-      made : (bs : List Bool) → SignsAre n vs bs → b′ ≡ rowByte (take (k + 1) bs)
+      made : (bs : List Bool) → SignsAre n vs bs → b′ ≡ rowByte (take (k + 1) (wide bs))
       made bs s =
-          let l : k < length bs = omega (arith, s .count) in
-          f (take k bs) (length-take-le k bs (omega arith)) (i .byte bs s)
-          ∙ ap (λ x. rowByte (take k bs ++ (x ∷ []))) (sym e ∙ s .here k h)
-          ∙ ap rowByte (sym (take-suc bs k false l))
-          ∙ ap (λ m. rowByte (take m bs)) (sym (add-one k))
+          let l : k < length (wide bs) = omega (arith, length-append bs (replicate 8 false)) in
+          f (take k (wide bs)) (length-take-le k (wide bs) (omega arith)) (i .byte bs s)
+          ∙ ap (λ x. rowByte (take k (wide bs) ++ (x ∷ []))) (e ∙ lane-bit k s ∙ sym (wide-at bs 8 k))
+          ∙ ap rowByte (sym (take-suc (wide bs) k false l))
+          ∙ ap (λ m. rowByte (take m (wide bs))) (sym (add-one k))
 
-  pub all-signs : n ≤ k → SignByte n vs b
+  pub all-signs : 8 ≤ k → SignByte n vs b
   all-signs h =
+      let e : k ≡ 8 = omega (arith, i .within) in
       record {
         byte = λ bs s.
-            i .byte bs s ∙ ap rowByte (take-all k bs (omega (arith, s .count)));
+            i .byte bs s ∙ ap (λ m. rowByte (take m (wide bs))) e ∙ row-first 8 (wide bs) ∙ row-wide 8 8 bs;
       }
 
 materials-at : (t : Tape) (g : D.Grid) (y m x k : ℕ) → k < m

@@ -13,6 +13,7 @@ ghost use mathlib.Core.Bool.{false};
 ghost use Prim.Native.Nat.{_+_, _%_, _≤_};
 ghost use lib.ListN.{length};
 ghost use Rattle.shortening.specs.Kept.{markRoom};
+ghost use Rattle.picture.specs.Parts.{Apart};
 ghost use Rattle.picture.specs.Shapes.{gridIn};
 ghost use Rattle.walk.specs.Cells.{Ready, CellOk, regionIn};
 ghost use Rattle.walk.specs.Draws.{Fills};
@@ -24,6 +25,8 @@ fn fill(grid: Grid, c: Cell, picture: &mut [u8])
     requires { ⌜ c .x % 8 ≡ 0 ⌝ }
     ensures { λ _. ⌜ Fills (Shown false grid) (gridIn grid false) (regionIn c)
         (now (picture .entry)) (now (picture .exit)) ⌝ }
+    ensures { λ _. ⌜ Apart (grid .width) (c .x) (c .xend) (c .y) (c .yend) (now (picture .entry))
+        (now (picture .exit)) ⌝ }
 {
     let xend = c.xend as usize;
     let yend = c.yend as usize;
@@ -58,6 +61,8 @@ pub fn look(
     ensures { λ r. ⌜ Looked false (now (whole .entry)) (now (code .entry)) (now (places .entry)) grid (regionIn c)
         (now (picture .entry)) (now (picture .exit)) (now (work .exit)) (now (next .exit))
         (now (nextplaces .exit)) r ⌝ }
+    ensures { λ _. ⌜ Apart (grid .width) (c .x) (c .x + c .side) (c .y) (c .y + c .side) (now (picture .entry))
+        (now (picture .exit)) ⌝ }
 {
     let range = run_ranges(code, flat_bounds(grid, c), work);
     match verdict_on(range) {

@@ -1,5 +1,5 @@
 // Side 1: the samples of a region of side 8, a row of at most 8 in one sweep and stored as one byte.
-use picture::bits::paint_row;
+use picture::bits::store_row;
 use picture::bits::with_pixel;
 use picture::grid::Grid;
 use picture::grid::sample;
@@ -10,12 +10,15 @@ ghost use mathlib.Core.Path.{_≡_};
 ghost use mathlib.Core.Bool.{false};
 ghost use mathlib.Core.List.{[]};
 ghost use Prim.Native.Nat.{ℕ, _+_, _-_, _%_, _<_, _≤_};
+ghost use lib.Dec.{ltb};
 ghost use lib.ListN.{length};
+ghost use Rattle.rules.specs.Values.{pick, isNeg};
 ghost use Rattle.rules.specs.Tapes.{slotLimit};
 ghost use Rattle.rules.specs.Drawings.{sizeLimit, gridFault, alongX, alongY};
 ghost use Rattle.rules.specs.Accepted.{Accepted};
 ghost use Rattle.code.specs.Words.{tapeIn};
 ghost use Rattle.picture.specs.Bits.{rowByte};
+ghost use Rattle.picture.specs.Parts.{Blank, Apart};
 ghost use Rattle.picture.specs.Shapes.{gridIn};
 ghost use Rattle.walk.specs.Cells.{Ready, CellOk, SpanIn};
 ghost use Rattle.walk.specs.Walks.{Sound, Folds};
@@ -45,15 +48,23 @@ fn lane_samples(origin: i32, step: i32, from: u32, end: u32) -> [i32; 8]
     r
 }
 
-// The signs of the first lanes, the first in the highest bit: 1 is below 0.
+// Whether a lane's sample has material: its value is below 0. A lane past the row's last sample has none.
+fn lane_on(v: i32, k: u32, count: u32) -> bool
+    ensures { λ r. ⌜ r ≡ pick (ltb k count) (isNeg v) false ⌝ }
+{
+    if k < count { v < 0 } else { false }
+}
+
+// The signs of the first lanes, the first in the highest bit: 1 is below 0. Each turn has its own constant place, so
+// that the lanes are taken several at once.
 fn sign_byte(row: [i32; 8], count: u32) -> u8
     requires { ⌜ count ≤ 8 ⌝ }
     ensures { λ r. ⌜ SignByte count row r ⌝ }
 {
     let mut byte = 0u8;
     let mut k = 0u32;
-    while k < count {
-        byte = with_pixel(byte, k, row[k as usize] < 0);
+    while k < 8 {
+        byte = with_pixel(byte, k, lane_on(row[k as usize], k, count));
         k += 1;
     }
     byte
@@ -100,12 +111,15 @@ fn sample_row(
     requires { ⌜ (parent .side ≡ 8) × (parent .x % 8 ≡ 0) × (y < parent .yend) ⌝ }
     requires { ⌜ LaneSamples (grid .xorigin) (grid .xstep) (parent .x) (parent .xend) xs ⌝ }
     requires { ⌜ length (now slots) ≡ slotLimit ⌝ }
+    requires { ⌜ Blank (grid .width) (parent .x) (parent .x + 8) y (y + 1) (now picture) ⌝ }
     ensures { λ r. ⌜ Folds false 8 (now (code .entry)) grid [] (alongX 8 (parent .x) y 0 1 (parent .xend))
         (now (picture .entry)) (now (picture .exit)) r ⌝ }
     ensures { λ _. ⌜ length (now (slots .exit)) ≡ slotLimit ⌝ }
+    ensures { λ _. ⌜ Apart (grid .width) (parent .x) (parent .x + 8) y (y + 1) (now (picture .entry))
+        (now (picture .exit)) ⌝ }
 {
     let byte = row_byte(code, grid, parent, xs, y, slots);
-    paint_row(
+    store_row(
         picture,
         grid.width as usize,
         parent.x as usize,
@@ -115,21 +129,31 @@ fn sample_row(
     (parent.xend - parent.x) as u64 * code.len() as u64
 }
 
-pub fn sample_rows(code: &[u64], grid: Grid, parent: Cell, picture: &mut [u8]) -> u64
+pub fn sample_rows(
+    code: &[u64],
+    grid: Grid,
+    parent: Cell,
+    slots: &mut [[i32; 8]; SLOT_LIMIT],
+    picture: &mut [u8],
+) -> u64
     requires { ⌜ Sound (now code) ⌝ }
     requires { ⌜ Ready false grid (now picture) ⌝ }
     requires { ⌜ CellOk 1 grid parent ⌝ }
     requires { ⌜ (parent .side ≡ 8) × (parent .x % 8 ≡ 0) ⌝ }
+    requires { ⌜ length (now slots) ≡ slotLimit ⌝ }
+    requires { ⌜ Blank (grid .width) (parent .x) (parent .x + 8) (parent .y) (parent .y + 8) (now picture) ⌝ }
     ensures { λ r. ⌜ Folds false 64 (now (code .entry)) grid []
         (alongY 8 8 (parent .x) (parent .y) 0 1 (parent .xend) (parent .yend))
         (now (picture .entry)) (now (picture .exit)) r ⌝ }
+    ensures { λ _. ⌜ length (now (slots .exit)) ≡ slotLimit ⌝ }
+    ensures { λ _. ⌜ Apart (grid .width) (parent .x) (parent .x + 8) (parent .y) (parent .y + 8)
+        (now (picture .entry)) (now (picture .exit)) ⌝ }
 {
     let xs = lane_samples(grid.xorigin, grid.xstep, parent.x, parent.xend);
-    let mut slots = [[0i32; 8]; SLOT_LIMIT];
     let mut count: u64 = 0;
     let mut y = parent.y;
     while y < parent.yend {
-        count += sample_row(code, grid, parent, xs, y, &mut slots, picture);
+        count += sample_row(code, grid, parent, xs, y, slots, picture);
         y += 1;
     }
     count

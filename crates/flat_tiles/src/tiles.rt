@@ -4,16 +4,19 @@ use crate::look::look;
 use picture::bits::clear;
 use picture::grid::Grid;
 use shortening::expand::whole_places;
+use tape::SLOT_LIMIT;
 use walk::cell::cell_at;
 use walk::look::Seen;
 ghost use mathlib.Core.Path.{_≡_};
 ghost use mathlib.Core.Bool.{false};
-ghost use Prim.Native.Nat.{_*_, _%_, _<_, _≤_};
+ghost use Prim.Native.Nat.{_+_, _*_, _%_, _<_, _≤_};
 ghost use lib.ListN.{length};
+ghost use Rattle.rules.specs.Tapes.{slotLimit};
 ghost use Rattle.rules.specs.Drawings.{flatBound, region, alongX, alongY};
+ghost use Rattle.picture.specs.Parts.{Blank, Apart};
 ghost use Rattle.walk.specs.Cells.{Ready, InGrid};
 ghost use Rattle.walk.specs.Walks.{Sound, Level, MarksFit, Visits, Folds, Walked};
-ghost use Rattle.flat_tiles.specs.Rects.{RectIn};
+ghost use Rattle.flat_tiles.specs.Rects.{RectIn, tilesEnd};
 ghost use Rattle.flat_tiles.specs.Sides.{below64};
 
 // At most 4,161 runs: the tile, 64 of side 8 and 4,096 samples.
@@ -29,6 +32,7 @@ fn visit_tile(
     firstplaces: &mut [u16],
     second: &mut [u64],
     secondplaces: &mut [u16],
+    slots: &mut [[i32; 8]; SLOT_LIMIT],
 ) -> u64
     requires { ⌜ Level (now whole) (now whole) (now places) ⌝ }
     requires { ⌜ Ready false grid (now picture) ⌝ }
@@ -37,8 +41,13 @@ fn visit_tile(
     requires { ⌜ MarksFit 2 (now whole) (now work)
         × (length (now whole) ≤ length (now first)) × (length (now firstplaces) ≡ length (now first))
         × (length (now whole) ≤ length (now second)) × (length (now secondplaces) ≡ length (now second)) ⌝ }
+    requires { ⌜ length (now slots) ≡ slotLimit ⌝ }
+    requires { ⌜ Blank (grid .width) x (x + 64) y (y + 64) (now picture) ⌝ }
     ensures { λ r. ⌜ Visits false flatBound (now (whole .entry)) grid below64 (region x y 0 64)
         (now (picture .entry)) (now (picture .exit)) r ⌝ }
+    ensures { λ _. ⌜ length (now (slots .exit)) ≡ slotLimit ⌝ }
+    ensures { λ _. ⌜ Apart (grid .width) x (x + 64) y (y + 64)
+        (now (picture .entry)) (now (picture .exit)) ⌝ }
 {
     let cell = cell_at(grid, 1, x, y, 0, 64);
     let seen = look(
@@ -68,6 +77,7 @@ fn visit_tile(
                 work,
                 second,
                 secondplaces,
+                slots,
             );
             whole.len() as u64 + inside
         }
@@ -94,6 +104,7 @@ fn tile_row(
     firstplaces: &mut [u16],
     second: &mut [u64],
     secondplaces: &mut [u16],
+    slots: &mut [[i32; 8]; SLOT_LIMIT],
 ) -> u64
     requires { ⌜ Level (now whole) (now whole) (now places) ⌝ }
     requires { ⌜ Ready false grid (now picture) ⌝ }
@@ -102,8 +113,13 @@ fn tile_row(
     requires { ⌜ MarksFit 2 (now whole) (now work)
         × (length (now whole) ≤ length (now first)) × (length (now firstplaces) ≡ length (now first))
         × (length (now whole) ≤ length (now second)) × (length (now secondplaces) ≡ length (now second)) ⌝ }
+    requires { ⌜ length (now slots) ≡ slotLimit ⌝ }
+    requires { ⌜ Blank (grid .width) (rect .x) (tilesEnd (rect .x) (rect .xend)) y (y + 64) (now picture) ⌝ }
     ensures { λ r. ⌜ Folds false (8 * flatBound) (now (whole .entry)) grid below64
         (alongX 8 (rect .x) y 0 64 (rect .xend)) (now (picture .entry)) (now (picture .exit)) r ⌝ }
+    ensures { λ _. ⌜ length (now (slots .exit)) ≡ slotLimit ⌝ }
+    ensures { λ _. ⌜ Apart (grid .width) (rect .x) (tilesEnd (rect .x) (rect .xend)) y (y + 64)
+        (now (picture .entry)) (now (picture .exit)) ⌝ }
 {
     let mut count: u64 = 0;
     let mut x = rect.x;
@@ -120,6 +136,7 @@ fn tile_row(
             firstplaces,
             second,
             secondplaces,
+            slots,
         );
         x += 64;
     }
@@ -137,6 +154,7 @@ fn tile_rows(
     firstplaces: &mut [u16],
     second: &mut [u64],
     secondplaces: &mut [u16],
+    slots: &mut [[i32; 8]; SLOT_LIMIT],
 ) -> u64
     requires { ⌜ Level (now whole) (now whole) (now places) ⌝ }
     requires { ⌜ Ready false grid (now picture) ⌝ }
@@ -144,9 +162,16 @@ fn tile_rows(
     requires { ⌜ MarksFit 2 (now whole) (now work)
         × (length (now whole) ≤ length (now first)) × (length (now firstplaces) ≡ length (now first))
         × (length (now whole) ≤ length (now second)) × (length (now secondplaces) ≡ length (now second)) ⌝ }
+    requires { ⌜ length (now slots) ≡ slotLimit ⌝ }
+    requires { ⌜ Blank (grid .width) (rect .x) (tilesEnd (rect .x) (rect .xend))
+        (rect .y) (tilesEnd (rect .y) (rect .yend)) (now picture) ⌝ }
     ensures { λ r. ⌜ Folds false (64 * flatBound) (now (whole .entry)) grid below64
         (alongY 8 8 (rect .x) (rect .y) 0 64 (rect .xend) (rect .yend))
         (now (picture .entry)) (now (picture .exit)) r ⌝ }
+    ensures { λ _. ⌜ length (now (slots .exit)) ≡ slotLimit ⌝ }
+    ensures { λ _. ⌜ Apart (grid .width) (rect .x) (tilesEnd (rect .x) (rect .xend))
+        (rect .y) (tilesEnd (rect .y) (rect .yend))
+        (now (picture .entry)) (now (picture .exit)) ⌝ }
 {
     let mut count: u64 = 0;
     let mut y = rect.y;
@@ -163,14 +188,15 @@ fn tile_rows(
             firstplaces,
             second,
             secondplaces,
+            slots,
         );
         y += 64;
     }
     count
 }
 
-// The tiles of a rectangle, onto what the picture shows. The buffers of the levels are lent: a short tape is no longer
-// than the tape.
+// The tiles of a rectangle, onto a picture whose bytes there are 0; every other byte stays as it is. The buffers of the
+// levels are lent: a short tape is no longer than the tape.
 pub fn tiles_in(
     whole: &[u64],
     places: &mut [u16],
@@ -190,12 +216,18 @@ pub fn tiles_in(
     requires { ⌜ MarksFit 2 (now whole) (now work)
         × (length (now whole) ≤ length (now first)) × (length (now firstplaces) ≡ length (now first))
         × (length (now whole) ≤ length (now second)) × (length (now secondplaces) ≡ length (now second)) ⌝ }
+    requires { ⌜ Blank (grid .width) (rect .x) (tilesEnd (rect .x) (rect .xend))
+        (rect .y) (tilesEnd (rect .y) (rect .yend)) (now picture) ⌝ }
     ensures { λ r. ⌜ Folds false (64 * flatBound) (now (whole .entry)) grid below64
         (alongY 8 8 (rect .x) (rect .y) 0 64 (rect .xend) (rect .yend))
         (now (picture .entry)) (now (picture .exit)) r ⌝ }
+    ensures { λ _. ⌜ Apart (grid .width) (rect .x) (tilesEnd (rect .x) (rect .xend))
+        (rect .y) (tilesEnd (rect .y) (rect .yend))
+        (now (picture .entry)) (now (picture .exit)) ⌝ }
 {
     let n = whole.len();
     whole_places(places, n);
+    let mut slots = [[0i32; 8]; SLOT_LIMIT];
     tile_rows(
         whole,
         &places[..n],
@@ -207,6 +239,7 @@ pub fn tiles_in(
         firstplaces,
         second,
         secondplaces,
+        &mut slots,
     )
 }
 

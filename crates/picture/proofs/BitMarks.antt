@@ -132,14 +132,16 @@ marked-more p bs cs b c d m n =
           omega (arith, n .bits j k (omega (arith, m .size)) o, m .bits j k l o, mark-append p (8 * j + k) bs cs);
     }
 
--- One byte stored, at most 8 samples.
-module _ (b : List ℕ) (at v : ℕ) (bs : List Bool) (l : at < length b) (short : length bs ≤ 8)
-    (e : (k : ℕ) → k < 8 → bit (7 - k) v ≡ max (bit (7 - k) (getD b at 0)) (when (getD bs k false) 1)) where
-  set-by : (j k : ℕ) → k < 8 → (t : Bool) → eqb j at ≡ t
-      → bit (7 - k) (getD (set b at v) j 0) ≡ max (bit (7 - k) (getD b j 0)) (markAt (8 * at) bs (8 * j + k))
-  set-by j k o true q = rw (eqb-true j at q, getD-set-same, mark-in) (e k o)
-  set-by j k o false q =
-      rw (getD-set-other b at j v 0 (eqb-false j at q)) (omega (arith, apart (ltb j at) refl))
+-- One byte changed, at most 8 samples.
+module _ (b b′ : List ℕ) (at : ℕ) (bs : List Bool) (short : length bs ≤ 8) (size : length b′ ≡ length b)
+    (here : (k : ℕ) → k < 8
+    → bit (7 - k) (getD b′ at 0) ≡ max (bit (7 - k) (getD b at 0)) (when (getD bs k false) 1))
+    (other : (j : ℕ) → (j ≡ at → ⊥) → getD b′ j 0 ≡ getD b j 0) where
+  byte-by : (j k : ℕ) → k < 8 → (t : Bool) → eqb j at ≡ t
+      → bit (7 - k) (getD b′ j 0) ≡ max (bit (7 - k) (getD b j 0)) (markAt (8 * at) bs (8 * j + k))
+  byte-by j k o true q = rw (eqb-true j at q, mark-in) (here k o)
+  byte-by j k o false q =
+      rw (other j (eqb-false j at q)) (omega (arith, apart (ltb j at) refl))
     where
       apart : (t : Bool) → ltb j at ≡ t → markAt (8 * at) bs (8 * j + k) ≡ 0
       apart true r = mark-before (8 * at) (8 * j + k) bs (omega (arith, ltb-true j at r))
@@ -147,8 +149,16 @@ module _ (b : List ℕ) (at v : ℕ) (bs : List Bool) (l : at < length b) (short
           let d : at < j = omega (arith, ltb-false j at r, eqb-false j at q) in
           mark-past (8 * at) (8 * j + k) bs (omega arith)
 
-  pub marked-set : Marked (8 * at) bs b (set b at v)
-  marked-set = record { size = length-set b at v; bits = λ j k m o. set-by j k o (eqb j at) refl }
+  pub marked-byte : Marked (8 * at) bs b b′
+  marked-byte = record { size = size; bits = λ j k m o. byte-by j k o (eqb j at) refl }
+
+-- One byte stored.
+marked-set : (b : List ℕ) (at v : ℕ) (bs : List Bool) → at < length b → length bs ≤ 8
+    → ((k : ℕ) → k < 8 → bit (7 - k) v ≡ max (bit (7 - k) (getD b at 0)) (when (getD bs k false) 1))
+    → Marked (8 * at) bs b (set b at v)
+marked-set b at v bs l s e =
+    marked-byte b (set b at v) at bs s (length-set b at v) (λ k o. rw getD-set-same (e k o))
+    (λ j n. getD-set-other b at j v 0 n)
 
 -- An `or` marks the samples of the byte joined.
 pub marked-or : (b : List ℕ) (at v : ℕ) (bs : List Bool) → at < length b → length bs ≤ 8

@@ -5,7 +5,6 @@ use mathlib.Core.List.{List, [], _∷_, _++_, map, append-nil, append-assoc}
 use Prim.Native.Nat.{ℕ, zero, suc, _+_, _-_, _*_, _/_, _%_, _<_, _≤_, max}
 use native.Mathlib.Nat.{zero-mul, zero-add, sub-self, add-mul, mul-suc, sub-zero, suc-sub-suc, mul-le-mul-right}
 use native.Mathlib.Omega.{arith}
-use lib.Bits.{bitOr}
 use lib.Arith.{digits-lt}
 use lib.Dec.{eqb, ltb}
 use lib.ListN.{length, getD, set, replicate, take, drop, length-set, length-replicate, length-append, length-drop}
@@ -16,10 +15,10 @@ use borrow.Author.Tests.{ltb-true, ltb-false, eqb-true, eqb-false}
 use Rattle.rules.specs.Values.{pick, when}
 use Rattle.rules.specs.Drawings.{raiseRow, raiseRows}
 use Rattle.rules.specs.Pictures.{stride, byteOf, rowBytes, bitsOf}
-use Rattle.picture.specs.Bits.{bit, pixel, rowByte, markRow, markAt, Within, Marked, Shows}
+use Rattle.picture.specs.Bits.{bit, pixel, rowByte, markRow, markAt, Within, Marked, StoredRow, Shows}
 use Rattle.picture.proofs.BitBytes.{bit-zero, row-byte-bits}
-use Rattle.picture.proofs.BitMarks.{marked-or, mark-none, mark-off, mark-apart, mark-in, mark-past, mark-append}
-use Rattle.picture.proofs.BitMarks.{mark-place}
+use Rattle.picture.proofs.BitMarks.{marked-byte, mark-none, mark-off, mark-apart, mark-in, mark-past}
+use Rattle.picture.proofs.BitMarks.{mark-append, mark-place}
 
 -- Heights after a row of samples.
 abbrev raised : ℕ → List ℕ → List ℕ
@@ -124,17 +123,32 @@ pub row-in : (w x xend yend y : ℕ) (b : List ℕ) → Within w x xend yend b �
 row-in w x xend yend y b i l =
     omega (arith, i .start, i .columns, i .rows, i .some, mul-le-mul-right (stride w) l)
 
--- One byte joined.
-pub paint-shows : (w n x y v : ℕ) (bs : List Bool) (b h : List ℕ) → Within w x (x + 1) (y + 1) b → length bs ≤ 8
-    → x + length bs ≤ w → v ≡ rowByte bs → Shows w n b h
-    → Shows w n (set b (y * stride w + x / 8) (bitOr (getD b (y * stride w + x / 8) 0) v)) (markRow (y * w + x) bs h)
-paint-shows w n x y v bs b h i q r e s =
+-- One byte stored.
+pub stored : (w x y v : ℕ) (b : List ℕ) → y * stride w + x / 8 < length b
+    → StoredRow w x y v b (set b (y * stride w + x / 8) v)
+stored w x y v b l =
     let at = y * stride w + x / 8 in
-    let d : x ≡ 8 * (x / 8) = omega (arith, i .start) in
-    let l : at < length b = omega (arith, row-in w x (x + 1) (y + 1) y b i (omega arith)) in
-    subst (λ u. Shows w n (set b at (bitOr (getD b at 0) v)) (markRow (y * w + u) bs h)) (sym d)
-    (marked-shows w n y (x / 8) bs b (set b at (bitOr (getD b at 0) v)) h (omega arith)
-    (marked-or b at v bs l q (λ k o. ap (bit (7 - k)) e ∙ row-byte-bits k bs o)) s)
+    record {
+      size = length-set b at v;
+      here = λ bs e k o. rw getD-set-same (ap (bit (7 - k)) e ∙ row-byte-bits k bs o);
+      other = λ j n. getD-set-other b at j v 0 n;
+    }
+
+over-none : {a b c : ℕ} → a ≡ c → b ≡ 0 → a ≡ max b c
+over-none e f = omega arith
+
+-- Where the byte was 0 this marks the row's samples.
+pub stored-shows : (w n x y v : ℕ) (bs : List Bool) (b b′ h : List ℕ) → x % 8 ≡ 0 → length bs ≤ 8
+    → x + length bs ≤ w → v ≡ rowByte bs → getD b (y * stride w + x / 8) 0 ≡ 0 → StoredRow w x y v b b′
+    → Shows w n b h → Shows w n b′ (markRow (y * w + x) bs h)
+stored-shows w n x y v bs b b′ h o q r e z k s =
+    let at = y * stride w + x / 8 in
+    let d : x ≡ 8 * (x / 8) = omega (arith, o) in
+    subst (λ u. Shows w n b′ (markRow (y * w + u) bs h)) (sym d)
+    (marked-shows w n y (x / 8) bs b b′ h (omega arith)
+    (marked-byte b b′ at bs q (k .size)
+    (λ i l. over-none (k .here bs e i l) (ap (bit (7 - i)) z ∙ bit-zero (7 - i)))
+    (k .other)) s)
 
 -- Rectangles: a row raised to 1 is a row of samples that all have material, and the rows may be raised last one last.
 pub raise-mark : (m p : ℕ) (h : List ℕ) → raiseRow m p 1 h ≡ markRow p (replicate m true) h
@@ -173,7 +187,7 @@ rect-shows w n x y j m i b b′ h e f l k s =
     (omega (arith, length-replicate m true)) k s)
 
 -- No material.
-zeros-at : (m i : ℕ) → _≡_ {A = ℕ} (getD (replicate m 0) i 0) 0
+pub zeros-at : (m i : ℕ) → _≡_ {A = ℕ} (getD (replicate m 0) i 0) 0
 zeros-at zero i = refl
 zeros-at (suc m) zero = refl
 zeros-at (suc m) (suc i) = zeros-at m i

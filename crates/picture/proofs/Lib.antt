@@ -7,3 +7,4 @@ pub mod Grids
 pub mod BitBytes
 pub mod BitMarks
 pub mod BitShows
+pub mod PartLaws

@@ -56,3 +56,11 @@ pub record Marked (p : ℕ) (bs : List Bool) (b b′ : List ℕ) : Type 0 where
   pub size : length b′ ≡ length b
   pub bits : (j k : ℕ) → j < length b → k < 8
       → bit (7 - k) (getD b′ j 0) ≡ max (bit (7 - k) (getD b j 0)) (markAt p bs (8 * j + k))
+
+-- The byte of a row of samples, stored from pixel x of row y on: each sample's bit is its material, the bits past the
+-- last sample, spare bits included, are 0 whatever the byte held, and every other byte is as it was.
+pub record StoredRow (w x y v : ℕ) (b b′ : List ℕ) : Type 0 where
+  pub size : length b′ ≡ length b
+  pub here : (bs : List Bool) → v ≡ rowByte bs → (k : ℕ) → k < 8
+      → bit (7 - k) (getD b′ (y * stride w + x / 8) 0) ≡ when (getD bs k false) 1
+  pub other : (j : ℕ) → (j ≡ y * stride w + x / 8 → ⊥) → getD b′ j 0 ≡ getD b j 0

@@ -2,3 +2,4 @@
 pub mod Shapes
 pub mod Heights
 pub mod Bits
+pub mod Parts

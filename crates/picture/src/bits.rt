@@ -2,14 +2,15 @@
 ghost use mathlib.Core.Path.{_≡_};
 ghost use mathlib.Core.Bool.{Bool, true};
 ghost use mathlib.Core.List.{List, [], _∷_, _++_};
-ghost use Prim.Native.Nat.{ℕ, _+_, _-_, _*_, _<_, _≤_};
+ghost use Prim.Native.Nat.{ℕ, _+_, _-_, _*_, _/_, _<_, _≤_};
 ghost use lib.Bits.{bitOr};
 ghost use lib.Dec.{ltb};
 ghost use lib.ListN.{length, getD, set, replicate};
 ghost use Rattle.rules.specs.Values.{when};
 ghost use Rattle.rules.specs.Drawings.{sizeLimit, raiseRows};
 ghost use Rattle.rules.specs.Pictures.{stride as strideOf};
-ghost use Rattle.picture.specs.Bits.{bit, rowByte, markRow, Within, Marked, Shows};
+ghost use Rattle.picture.specs.Bits.{bit, rowByte, Within, Marked, StoredRow, Shows};
+ghost use Rattle.picture.specs.Parts.{KeptOutside, Apart};
 
 pub fn clear(picture: &mut [u8])
     ensures { λ _. ⌜ now (picture .exit) ≡ replicate (length (now (picture .entry))) 0 ⌝ }
@@ -59,6 +60,7 @@ pub fn with_pixel(byte: u8, k: u32, on: bool) -> u8
 fn fill_row(picture: &mut [u8], at: usize, count: usize)
     requires { ⌜ 1 ≤ count ⌝ ∗ ⌜ 8 * at + count ≤ 8 * length (now picture) ⌝ }
     ensures { λ _. ⌜ Marked (8 * at) (replicate count true) (now (picture .entry)) (now (picture .exit)) ⌝ }
+    ensures { λ _. ⌜ KeptOutside at (at + (count + 7) / 8) (now (picture .entry)) (now (picture .exit)) ⌝ }
 {
     let last = count - 1;
     let end = at + last / 8;
@@ -75,6 +77,7 @@ pub fn fill_rect(picture: &mut [u8], width: usize, x: usize, y: usize, xend: usi
     requires { ⌜ Within width x xend yend (now picture) ⌝ ∗ ⌜ y ≤ yend ⌝ }
     ensures { λ _. ⌜ ((n : ℕ) (h : List ℕ) → Shows width n (now (picture .entry)) h
         → Shows width n (now (picture .exit)) (raiseRows (yend - y) width (y * width + x) (xend - x) 1 h)) ⌝ }
+    ensures { λ _. ⌜ Apart width x xend y yend (now (picture .entry)) (now (picture .exit)) ⌝ }
 {
     let row = stride(width);
     let first = x / 8;
@@ -86,12 +89,18 @@ pub fn fill_rect(picture: &mut [u8], width: usize, x: usize, y: usize, xend: usi
     }
 }
 
-// Makes the pixels of one byte material, from pixel `x` of row `y` on, where `byte` has a 1.
-pub fn paint_row(picture: &mut [u8], width: usize, x: usize, y: usize, byte: u8)
-    requires { ⌜ Within width x (x + 1) (y + 1) (now picture) ⌝ }
-    ensures { λ _. ⌜ ((n : ℕ) (h : List ℕ) (bs : List Bool) → length bs ≤ 8 → x + length bs ≤ width
-        → byte ≡ rowByte bs → Shows width n (now (picture .entry)) h
-        → Shows width n (now (picture .exit)) (markRow (y * width + x) bs h)) ⌝ }
+// Stores one byte, whatever was there.
+fn store(picture: &mut [u8], at: usize, byte: u8)
+    requires { ⌜ at < length (now picture) ⌝ }
+    ensures { λ _. ⌜ now (picture .exit) ≡ set (now (picture .entry)) at byte ⌝ }
 {
-    paint(picture, y * stride(width) + x / 8, byte);
+    picture[at] = byte;
+}
+
+// Stores the byte of a row of samples, from pixel `x` of row `y` on, with its final bits.
+pub fn store_row(picture: &mut [u8], width: usize, x: usize, y: usize, byte: u8)
+    requires { ⌜ Within width x (x + 1) (y + 1) (now picture) ⌝ }
+    ensures { λ _. ⌜ StoredRow width x y byte (now (picture .entry)) (now (picture .exit)) ⌝ }
+{
+    store(picture, y * stride(width) + x / 8, byte);
 }

@@ -5,11 +5,13 @@ use mathlib.Core.List.{[]}
 use Prim.Native.Nat.{_%_}
 use native.Mathlib.Omega.{arith}
 use Rattle.rules.specs.Drawings.{Region, region}
+use Rattle.picture.proofs.PartLaws.{apart-then}
 use Rattle.walk.specs.Cells.{CellOf, regionIn}
 use Rattle.walk.specs.Walks.{Opened}
 use Rattle.walk.proofs.CellLaws.{ready-small}
 use Rattle.walk.proofs.LookLaws.{sound-length, done-of, open-of, done-visits, open-sound, open-fewer, open-rows}
 use Rattle.walk.proofs.Places.{ready-again}
+use Rattle.flat_tiles.proofs.CellParts.{cell-blank, cell-apart, side-apart}
 use borrow.Author.Needs.{needs}
 use Rattle.flat_tiles.proofs.eights.visit_eight.Statement.{statement}
 use Rattle.flat_tiles.proofs.eights.visit_eight.Tie as tie
@@ -31,8 +33,8 @@ done c = c .before .before .before .before .before .before .before .before .befo
 abbrev looked : tie.After-known-told2 → tie.After-look
 looked c = c .before .before .before .before .before .before .before .before .before .before .before
 
-abbrev in-cut : tie.After-sample-rows-arg → tie.After-known-told2
-in-cut c = c .before .before .before
+abbrev in-cut : tie.After-sample-rows-arg2 → tie.After-known-told2
+in-cut c = c .before .before .before .before
 
 abbrev visited : tie.After-slice-known9 → tie.After-sample-rows
 visited c = c .before .before
@@ -54,7 +56,7 @@ opened : (c : tie.After-known-told2)
     Opened false (a .whole .now) (a .code .now) (a .places .now) (a .grid) (regionIn (with-cell j .cell-at .result)) (a .picture .now)
     (j .look .last .1 .1 .1 .1 .1 .0) (j .look .last .1 .1 .1 .1 .1 .1 .0) (j .look .last .1 .1 .1 .1 .1 .1 .1 .1 .0)
     (j .look .last .1 .1 .1 .1 .1 .1 .1 .1 .1 .0) (c .before .seen2 .given .0 .0)
-opened c = open-of false _ _ _ _ _ _ _ _ _ _ (looked c .look .ensures) (c .before .seen2 .given .1)
+opened c = open-of false _ _ _ _ _ _ _ _ _ _ (looked c .look .ensures .0) (c .before .seen2 .given .1)
 
 cell-at-requires : tie.Need-cell-at-requires
 cell-at-requires c κs =
@@ -74,7 +76,7 @@ look-requires : tie.Need-look-requires
 look-requires c κs =
     let k = made-cell c in
     let p = start k .pre in
-    let r = p .1 .1 .1 .1 in
+    let r = p .1 .1 .1 .1 .0 in
     let m = c .before .before .before .before .mark-room .ensures in
     (p .0, (p .1 .0, (made k .ok, (begins k, ((omega arith, omega (arith, m)), (omega arith, omega arith))))))
 
@@ -107,10 +109,17 @@ sample-rows-requires c κs =
     let j = looked t in
     let k = with-cell j in
     let p = start k .pre in
+    let l = p .1 .1 .1 .1 in
     let short = open-sound (p .0 .sound) (opened t) in
     let side = ap (λ (q : Region). q .long) (made k .same) in (
       search (short, p .0 .sound),
-      (ready-again (p .1 .0) (j .look .kept .1 .1 .1 .1 .1 .0), (made k .ok, (side, begins k))),
+      (
+        ready-again (p .1 .0) (j .look .kept .1 .1 .1 .1 .1 .0),
+        (
+          made k .ok,
+          ((side, begins k), (l .1 .0, cell-blank (k .cell-at .result) (made k .same) (opened t .same) (l .1 .1))),
+        ),
+      ),
     )
 
 add-result : tie.Need-add-result
@@ -118,7 +127,8 @@ add-result c =
     let u = visited c in
     let t = in-cut (u .before) in
     let s = start (with-cell (looked t)) in
-    omega (arith, sound-length (s .pre .0 .sound), open-fewer (s .pre .0 .sound) (opened t), u .sample-rows .ensures .bound)
+    let w = s .pre .0 .sound in
+    omega (arith, sound-length w, open-fewer w (opened t), u .sample-rows .ensures .0 .bound)
 
 same-length : tie.Need-same-length
 same-length c = search needs
@@ -132,8 +142,11 @@ same-length-3 c = search needs
 returns : tie.Need-returns
 returns c =
     let j = done c in
-    done-visits 65 1 [] (made (with-cell j) .same) (omega arith)
-    (done-of false _ _ _ _ _ _ _ _ _ _ (j .look .ensures) (c .before .seen .given .1))
+    let k = with-cell j in (
+      done-visits 65 1 [] (made k .same) (omega arith)
+          (done-of false _ _ _ _ _ _ _ _ _ _ (j .look .ensures .0) (c .before .seen .given .1)),
+      (start k .pre .1 .1 .1 .1 .1 .0, side-apart (k .cell-at .result) (made k .same) (j .look .ensures .1)),
+    )
 
 same-length-4 : tie.Need-same-length-4
 same-length-4 c = search needs
@@ -148,9 +161,17 @@ returns-2 : tie.Need-returns-2
 returns-2 c =
     let u = visited c in
     let t = in-cut (u .before) in
-    let k = with-cell (looked t) in
-    open-rows 1 8 (start k .pre .0 .sound) (omega arith) (omega arith) refl (made k) (opened t) [] 64
-    (u .sample-rows .ensures)
+    let j = looked t in
+    let k = with-cell j in
+    let e = made k .same in (
+      open-rows 1 8 (start k .pre .0 .sound) (omega arith) (omega arith) refl (made k) (opened t) [] 64
+          (u .sample-rows .ensures .0),
+      (
+        u .sample-rows .ensures .1 .0,
+        apart-then (side-apart (k .cell-at .result) e (j .look .ensures .1))
+            (cell-apart (k .cell-at .result) e (u .sample-rows .ensures .1 .1)),
+      ),
+    )
 
 same-length-7 : tie.Need-same-length-7
 same-length-7 c = search needs

@@ -37,7 +37,7 @@ same-length c = search needs
 returns : tie.Need-returns
 returns c =
     let u = c .before .before in
-    cell-fills _ _ (start (u .before) .pre .1 .0) (u .fill-rect .ensures)
+    (cell-fills _ _ (start (u .before) .pre .1 .0) (u .fill-rect .ensures .0), u .fill-rect .ensures .1)
 
 pub fill-spec : {M : Type 1} → statement M
 fill-spec =

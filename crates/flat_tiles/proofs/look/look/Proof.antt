@@ -4,6 +4,7 @@ use mathlib.Core.Bool.{false}
 use native.Mathlib.Omega.{arith}
 use Rattle.shortening.proofs.KeptLaws.{words-fewer}
 use Rattle.picture.specs.Shapes.{gridIn}
+use Rattle.picture.proofs.PartLaws.{apart-none, apart-part}
 use Rattle.walk.specs.Cells.{regionIn}
 use Rattle.walk.specs.Draws.{Hidden}
 use Rattle.walk.specs.Walks.{Shown}
@@ -95,8 +96,11 @@ returns c =
     let v = told .before .before in
     let j = ranged v in
     let b = with-box j in
-    done-full false (b .flat-bounds .ensures) (seen b) (j .run-ranges .ensures)
-    (full-of _ (v .verdict-on .ensures) (told .enum-told .given .1)) (filled .fill .ensures)
+    let k = start b .pre .1 .1 .0 in (
+      done-full false (b .flat-bounds .ensures) (seen b) (j .run-ranges .ensures)
+          (full-of _ (v .verdict-on .ensures) (told .enum-told .given .1)) (filled .fill .ensures .0),
+      apart-part (omega (arith, k .xs, k .ys)) (filled .fill .ensures .1),
+    )
 
 same-length-3 : tie.Need-same-length-3
 same-length-3 c = search needs
@@ -105,9 +109,11 @@ returns-2 : tie.Need-returns-2
 returns-2 c =
     let v = c .before .before in
     let j = ranged v in
-    let b = with-box j in
-    done-empty false (b .flat-bounds .ensures) (seen b) (j .run-ranges .ensures)
-    (empty-of _ (v .verdict-on .ensures) (c .enum-told2 .given .1))
+    let b = with-box j in (
+      done-empty false (b .flat-bounds .ensures) (seen b) (j .run-ranges .ensures)
+          (empty-of _ (v .verdict-on .ensures) (c .enum-told2 .given .1)),
+      apart-none _ _ _ _ _ _,
+    )
 
 same-length-4 : tie.Need-same-length-4
 same-length-4 c = search needs
@@ -121,9 +127,11 @@ returns-3 c =
     let told = k .before .before .before .before in
     let v = lent (k .before) in
     let j = ranged v in
-    let b = with-box j in
-    opened false (b .flat-bounds .ensures) (seen b) (j .run-ranges .ensures)
-    (mixed-of _ (v .verdict-on .ensures) (told .enum-told3 .given .1)) (k .cut .ensures)
+    let b = with-box j in (
+      opened false (b .flat-bounds .ensures) (seen b) (j .run-ranges .ensures)
+          (mixed-of _ (v .verdict-on .ensures) (told .enum-told3 .given .1)) (k .cut .ensures),
+      apart-none _ _ _ _ _ _,
+    )
 
 same-length-6 : tie.Need-same-length-6
 same-length-6 c = search needs

@@ -1,7 +1,10 @@
 -- A cleared picture, then all tiles.
 use mathlib.Core.Path.{refl, ap, _∙_}
+use Prim.Native.Nat.{_*_}
 use native.Mathlib.Omega.{arith}
 use lib.ListN.{replicate}
+use Rattle.rules.specs.Pictures.{stride}
+use Rattle.picture.proofs.PartLaws.{all-blank}
 use Rattle.walk.proofs.Places.{ready-again}
 use Rattle.flat_tiles.proofs.WalkLaws.{folds-walked}
 use borrow.Author.Needs.{needs}
@@ -29,7 +32,17 @@ tiles-in-requires c κs =
     let u = cleared c in
     let p = start u .pre in
     let r = ready-again (p .1 .0) (u .clear .kept .0) in
-    (p .0, (r, (record { start = refl; columns = omega arith; rows = omega arith }, (p .1 .1 .0, p .1 .1 .1))))
+    let g = start u .args .grid in
+    let e = u .clear .ensures ∙ ap (λ n. replicate n 0) (p .1 .0 .size) in (
+      p .0,
+      (
+        r,
+        (
+          record { start = refl; columns = omega arith; rows = omega arith },
+          (p .1 .1 .0, (p .1 .1 .1, all-blank _ _ _ _ _ (g .height * stride (g .width)) e)),
+        ),
+      ),
+    )
 
 same-length : tie.Need-same-length
 same-length c = search needs
@@ -57,7 +70,7 @@ returns c =
     let u = drawn c in
     let v = cleared (u .before) in
     let r = start v .pre .1 .0 in
-    folds-walked (r .fault) (u .tiles-in .ensures) (v .clear .ensures ∙ ap (λ n. replicate n 0) (r .size))
+    folds-walked (r .fault) (u .tiles-in .ensures .0) (v .clear .ensures ∙ ap (λ n. replicate n 0) (r .size))
     (λ j. painted c .slice-known10 .given j .fits)
 
 pub tile-flat-spec : {M : Type 1} → statement M

@@ -1,20 +1,24 @@
 -- The rows of tiles.
 use mathlib.Core.Path.{_≡_, refl, _∙_}
 use mathlib.Core.Bool.{false}
-use Prim.Native.Nat.{_*_, _-_}
+use Prim.Native.Nat.{_+_, _*_, _-_, _≤_}
 use native.Mathlib.Omega.{arith}
 use lib.ListN.{length}
+use Rattle.rules.specs.Tapes.{slotLimit}
 use Rattle.rules.specs.Drawings.{flatBound}
+use Rattle.picture.specs.Parts.{Apart}
+use Rattle.picture.proofs.PartLaws.{apart-none, apart-part, rows-apart, blank-below}
 use Rattle.walk.proofs.CellLaws.{ready-small}
 use Rattle.walk.proofs.LookLaws.{sound-length}
 use Rattle.walk.proofs.Loops.{AtRow, rows-begin, rows-again, rows-done}
 use Rattle.walk.proofs.Places.{up-sum, ready-again}
 use Rattle.flat_tiles.specs.Sides.{below64}
+use Rattle.flat_tiles.specs.Rects.{tilesEnd}
 use Rattle.flat_tiles.proofs.tiles.tile_rows.Statement.{statement}
 use Rattle.flat_tiles.proofs.tiles.tile_rows.Tie as tie
 
 abbrev Inv-loop : tie.InvT-loop
-Inv-loop whole places grid rect picture₀ work₀ first₀ firstplaces₀ second₀ secondplaces₀ count₀ y₀ picture work first firstplaces second secondplaces count y =
+Inv-loop whole places grid rect picture₀ work₀ first₀ firstplaces₀ second₀ secondplaces₀ slots₀ count₀ y₀ picture work first firstplaces second secondplaces slots count y =
     AtRow false 64 8 (8 * flatBound) whole grid below64 (rect .x) (rect .xend) (rect .y) (rect .yend) 0
     picture₀ picture count y
     × (length work ≡ length work₀)
@@ -22,9 +26,12 @@ Inv-loop whole places grid rect picture₀ work₀ first₀ firstplaces₀ secon
     × (length firstplaces ≡ length firstplaces₀)
     × (length second ≡ length second₀)
     × (length secondplaces ≡ length secondplaces₀)
+    × (length slots ≡ slotLimit)
+    × (y ≤ tilesEnd (rect .y) (rect .yend))
+    × Apart (grid .width) (rect .x) (tilesEnd (rect .x) (rect .xend)) (rect .y) y picture₀ picture
 
 abbrev μ-loop : tie.MeasureT-loop
-μ-loop whole places grid rect picture₀ work₀ first₀ firstplaces₀ second₀ secondplaces₀ count₀ y₀ picture work first firstplaces second secondplaces count y = rect .yend - y
+μ-loop whole places grid rect picture₀ work₀ first₀ firstplaces₀ second₀ secondplaces₀ slots₀ count₀ y₀ picture work first firstplaces second secondplaces slots count y = rect .yend - y
 
 -- The places: the start, before the loop and at its test; in a turn, after the call, and past the loop.
 abbrev begun : tie.After-slice-known6 Inv-loop μ-loop → tie.Start Inv-loop μ-loop
@@ -36,8 +43,8 @@ start c = begun (c .before)
 abbrev at-test : tie.Then1 Inv-loop μ-loop → tie.At-loop Inv-loop μ-loop
 at-test c = c .before .before
 
-abbrev in-turn : tie.After-tile-row-arg6 Inv-loop μ-loop → tie.Then1 Inv-loop μ-loop
-in-turn c = c .before .before .before .before .before .before
+abbrev in-turn : tie.After-tile-row-arg7 Inv-loop μ-loop → tie.Then1 Inv-loop μ-loop
+in-turn c = c .before .before .before .before .before .before .before
 
 abbrev called : tie.After-slice-known12 Inv-loop μ-loop → tie.After-tile-row Inv-loop μ-loop
 called c = c .before .before .before .before .before .before .before .before .before .before .before .before
@@ -48,8 +55,17 @@ past c = c .before .before
 loop-holds : tie.Need-loop-holds Inv-loop μ-loop
 loop-holds c =
     let p = begun c .pre .1 in
-    let d = ready-small (p .0) in
-    (rows-begin _ (omega arith) (omega arith), refl, refl, refl, refl, refl)
+    let d = ready-small (p .0) in (
+      rows-begin _ (omega arith) (omega arith),
+      refl,
+      refl,
+      refl,
+      refl,
+      refl,
+      p .1 .1 .1 .0,
+      omega arith,
+      apart-none _ _ _ _ _ _,
+    )
 
 tile-row-requires : tie.Need-tile-row-requires Inv-loop μ-loop
 tile-row-requires c κs =
@@ -57,14 +73,25 @@ tile-row-requires c κs =
     let i = at-test t .loop .inv in
     let s = start (at-test t) in
     let p = s .pre .1 .1 in
-    let r = ready-again (s .pre .1 .0) (i .0 .place .size) in
-    (s .pre .0, (r, (p .0, (t .if1 .taken, (omega arith, omega arith, omega arith, omega arith, omega arith)))))
+    let o = i .0 .place .place in
+    let b = blank-below {yend = at-test t .loop .y + 64} (omega arith) (omega (arith, t .if1 .taken)) (i .8)
+    (p .1 .1 .1) in
+    let r = ready-again (s .pre .1 .0) (i .0 .place .size) in (
+      s .pre .0,
+      (
+        r,
+        (
+          p .0,
+          (t .if1 .taken, ((omega arith, omega arith, omega arith, omega arith, omega arith), (i .6, b))),
+        ),
+      ),
+    )
 
 add-count : tie.Need-add-count Inv-loop μ-loop
 add-count c =
     let t = in-turn (called c .before) in
     let l = at-test t in
-    let u = up-sum (l .loop .inv .0 .place) (t .if1 .taken) (called c .tile-row .ensures .bound) in
+    let u = up-sum (l .loop .inv .0 .place) (t .if1 .taken) (called c .tile-row .ensures .0 .bound) in
     omega (arith, sound-length (start l .pre .0 .sound), u)
 
 add-y : tie.Need-add-y Inv-loop μ-loop
@@ -83,13 +110,18 @@ loop-again c =
     let t = in-turn (called c .before) in
     let i = at-test t .loop .inv in
     let kept = v .kept .1 .1 .1 .1 .1 in
-    let again = rows-again (i .0) (t .if1 .taken) (v .ensures) (kept .0) in (
+    let o = i .0 .place .place in
+    let a = rows-apart (omega arith) (omega arith) (i .8) (v .ensures .1 .1) in
+    let again = rows-again (i .0) (t .if1 .taken) (v .ensures .0) (kept .0) in (
       again,
       kept .1 .0 ∙ i .1,
       kept .1 .1 .0 ∙ i .2,
       kept .1 .1 .1 .0 ∙ i .3,
       kept .1 .1 .1 .1 .0 ∙ i .4,
       kept .1 .1 .1 .1 .1 .0 ∙ i .5,
+      v .ensures .1 .0,
+      omega (arith, o, t .if1 .taken),
+      a,
     )
 
 same-length : tie.Need-same-length Inv-loop μ-loop
@@ -111,7 +143,9 @@ same-length-6 : tie.Need-same-length-6 Inv-loop μ-loop
 same-length-6 c = past c .loop .inv .5
 
 returns : tie.Need-returns Inv-loop μ-loop
-returns c = rows-done (past c .loop .inv .0) (omega arith) (omega arith)
+returns c =
+    let i = past c .loop .inv in
+    (rows-done (i .0) (omega arith) (omega arith), (i .6, apart-part (omega (arith, i .7)) (i .8)))
 
 pub tile-rows-spec : {M : Type 1} → statement M
 tile-rows-spec =

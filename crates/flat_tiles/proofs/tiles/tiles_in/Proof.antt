@@ -1,5 +1,5 @@
 -- The places of the whole tape, then the rows of tiles.
-use mathlib.Core.Path.{sym}
+use mathlib.Core.Path.{refl, sym}
 use native.Mathlib.Omega.{arith}
 use lib.Seq.{length-take-le}
 use Rattle.shortening.proofs.KeptLaws.{places-kept}
@@ -8,7 +8,7 @@ use borrow.Author.Needs.{needs}
 use Rattle.flat_tiles.proofs.tiles.tiles_in.Statement.{statement}
 use Rattle.flat_tiles.proofs.tiles.tiles_in.Tie as tie
 
--- The places: the start, before and after the tape's places are made, and once all is lent.
+-- The places: the start, before and after the tape's places are made, once all is lent, and once it is drawn.
 abbrev begun : tie.After-whole-places-arg → tie.Start
 begun c = c .before .before .before .before .before .before .before .before .before
 
@@ -18,8 +18,11 @@ start c = begun (c .before)
 abbrev placed : tie.After-slice-known8 → tie.After-whole-places
 placed c = c .before .before
 
-abbrev lent : tie.After-tile-rows-arg7 → tie.After-whole-places
-lent c = c .before .before .before .before .before .before .before .before .before
+abbrev lent : tie.After-slots → tie.After-whole-places
+lent c = c .before .before .before .before .before .before .before .before .before .before
+
+abbrev drawn : tie.After-slice-known14 → tie.After-tile-rows
+drawn c = c .before .before .before .before .before .before .before .before .before .before .before .before
 
 whole-places-requires : tie.Need-whole-places-requires
 whole-places-requires c κs = let p = begun c .pre in (p .1 .1 .1 .0, sound-length (p .0))
@@ -35,11 +38,11 @@ tile-rows-requires c κs =
     let w = lent c in
     let p = start w .pre in (
       record { sound = p .0; kept = places-kept _ _ (sound-length (p .0)) (w .whole-places .ensures) },
-      (p .1 .0, (p .1 .1 .0, p .1 .1 .1 .1)),
+      (p .1 .0, (p .1 .1 .0, (p .1 .1 .1 .1 .0, (refl, p .1 .1 .1 .1 .1)))),
     )
 
 returns : tie.Need-returns
-returns c = search needs
+returns c = let e = drawn c .tile-rows .ensures in (e .0, e .1 .1)
 
 same-length : tie.Need-same-length
 same-length c = search needs

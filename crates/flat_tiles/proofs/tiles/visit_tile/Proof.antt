@@ -5,12 +5,14 @@ use Prim.Native.Nat.{_*_, _%_, _≤_}
 use native.Mathlib.Omega.{arith}
 use lib.ListN.{length}
 use Rattle.rules.specs.Drawings.{flatBound, Region, region}
+use Rattle.picture.proofs.PartLaws.{apart-then}
 use Rattle.walk.specs.Cells.{CellOf, regionIn}
 use Rattle.walk.specs.Walks.{Opened}
 use Rattle.walk.proofs.CellLaws.{ready-small}
 use Rattle.walk.proofs.LookLaws.{sound-length, done-of, open-of, done-visits, open-level, open-fewer, open-rows}
 use Rattle.walk.proofs.Places.{ready-again}
 use Rattle.flat_tiles.specs.Sides.{below8}
+use Rattle.flat_tiles.proofs.CellParts.{cell-blank, cell-apart, side-apart}
 use borrow.Author.Needs.{needs}
 use Rattle.flat_tiles.proofs.tiles.visit_tile.Statement.{statement}
 use Rattle.flat_tiles.proofs.tiles.visit_tile.Tie as tie
@@ -32,8 +34,8 @@ done c = c .before .before .before .before .before .before .before .before .befo
 abbrev looked : tie.After-known-told2 → tie.After-look
 looked c = c .before .before .before .before .before .before .before .before .before .before .before
 
-abbrev in-cut : tie.After-eight-rows-arg4 → tie.After-known-told2
-in-cut c = c .before .before .before .before .before .before .before .before
+abbrev in-cut : tie.After-eight-rows-arg5 → tie.After-known-told2
+in-cut c = c .before .before .before .before .before .before .before .before .before
 
 abbrev visited : tie.After-slice-known14 → tie.After-eight-rows
 visited c = c .before .before .before .before .before .before .before .before
@@ -55,7 +57,7 @@ opened : (c : tie.After-known-told2)
     Opened false (a .whole .now) (a .whole .now) (a .places .now) (a .grid) (regionIn (with-cell j .cell-at .result)) (a .picture .now)
     (j .look .last .1 .1 .1 .1 .1 .0) (j .look .last .1 .1 .1 .1 .1 .1 .0) (j .look .last .1 .1 .1 .1 .1 .1 .1 .1 .0)
     (j .look .last .1 .1 .1 .1 .1 .1 .1 .1 .1 .0) (c .before .seen2 .given .0 .0)
-opened c = open-of false _ _ _ _ _ _ _ _ _ _ (looked c .look .ensures) (c .before .seen2 .given .1)
+opened c = open-of false _ _ _ _ _ _ _ _ _ _ (looked c .look .ensures .0) (c .before .seen2 .given .1)
 
 cell-at-requires : tie.Need-cell-at-requires
 cell-at-requires c κs =
@@ -65,7 +67,7 @@ look-requires : tie.Need-look-requires
 look-requires c κs =
     let k = made-cell c in
     let p = start k .pre in
-    let r = p .1 .1 .1 .1 in
+    let r = p .1 .1 .1 .1 .0 in
     (p .0, (p .1 .0, (made k .ok, (begins k, ((omega arith, omega arith), (omega arith, omega arith))))))
 
 enum-known-seen : tie.Need-enum-known-seen
@@ -96,7 +98,7 @@ places-start : (c : tie.After-known-told2) → let v = looked c .look .last .1 .
 places-start c =
     let j = looked c in
     let k = j .look .kept .1 .1 .1 .1 .1 .1 .1 .1 in
-    let l = start (with-cell j) .pre .1 .1 .1 .1 in
+    let l = start (with-cell j) .pre .1 .1 .1 .1 .0 in
     omega (arith, opened c .cut .start, k .0, k .1 .0, l .2)
 
 mul-shortplaces : tie.Need-mul-shortplaces
@@ -119,12 +121,25 @@ eight-rows-requires c κs =
     let j = looked t in
     let k = with-cell j in
     let p = start k .pre in
-    let l = p .1 .1 .1 .1 in
+    let l = p .1 .1 .1 .1 .0 in
+    let q = p .1 .1 .1 .1 .1 in
     let w = j .look .kept .1 .1 .1 .1 .1 .1 .0 in
     let short = open-level (p .0 .sound) (opened t) in
     let side = ap (λ (q : Region). q .long) (made k .same) in (
       search (short, p .0),
-      (ready-again (p .1 .0) (j .look .kept .1 .1 .1 .1 .1 .0), (made k .ok, ((side, begins k), (omega arith, omega arith, omega arith)))),
+      (
+        ready-again (p .1 .0) (j .look .kept .1 .1 .1 .1 .1 .0),
+        (
+          made k .ok,
+          (
+            (side, begins k),
+            (
+              (omega arith, omega arith, omega arith),
+              (q .0, cell-blank (k .cell-at .result) (made k .same) (opened t .same) (q .1)),
+            ),
+          ),
+        ),
+      ),
     )
 
 add-result : tie.Need-add-result
@@ -132,7 +147,8 @@ add-result c =
     let u = visited c in
     let t = in-cut (u .before) in
     let s = start (with-cell (looked t)) in
-    omega (arith, sound-length (s .pre .0 .sound), open-fewer (s .pre .0 .sound) (opened t), u .eight-rows .ensures .bound)
+    let w = s .pre .0 .sound in
+    omega (arith, sound-length w, open-fewer w (opened t), u .eight-rows .ensures .0 .bound)
 
 same-length : tie.Need-same-length
 same-length c = search needs
@@ -146,8 +162,11 @@ same-length-3 c = search needs
 returns : tie.Need-returns
 returns c =
     let j = done c in
-    done-visits flatBound 8 below8 (made (with-cell j) .same) (omega arith)
-    (done-of false _ _ _ _ _ _ _ _ _ _ (j .look .ensures) (c .before .seen .given .1))
+    let k = with-cell j in (
+      done-visits flatBound 8 below8 (made k .same) (omega arith)
+          (done-of false _ _ _ _ _ _ _ _ _ _ (j .look .ensures .0) (c .before .seen .given .1)),
+      (start k .pre .1 .1 .1 .1 .1 .0, side-apart (k .cell-at .result) (made k .same) (j .look .ensures .1)),
+    )
 
 same-length-4 : tie.Need-same-length-4
 same-length-4 c = search needs
@@ -165,9 +184,17 @@ returns-2 : tie.Need-returns-2
 returns-2 c =
     let u = visited c in
     let t = in-cut (u .before) in
-    let k = with-cell (looked t) in
-    open-rows 8 8 (start k .pre .0 .sound) (omega arith) (omega arith) refl (made k) (opened t) below8 (64 * 65)
-    (u .eight-rows .ensures)
+    let j = looked t in
+    let k = with-cell j in
+    let e = made k .same in (
+      open-rows 8 8 (start k .pre .0 .sound) (omega arith) (omega arith) refl (made k) (opened t) below8 (64 * 65)
+          (u .eight-rows .ensures .0),
+      (
+        u .eight-rows .ensures .1 .0,
+        apart-then (side-apart (k .cell-at .result) e (j .look .ensures .1))
+            (cell-apart (k .cell-at .result) e (u .eight-rows .ensures .1 .1)),
+      ),
+    )
 
 part-shortplaces-end : tie.Need-part-shortplaces-end
 part-shortplaces-end c = search needs

@@ -1,13 +1,12 @@
--- `bits::paint_row` meets its contract.
+-- `bits::store_row` meets its contract.
 use Prim.Native.Nat.{_+_, _*_, _/_, _<_}
 use borrow.Author.Needs.{needs}
 use native.Mathlib.Omega.{arith}
 use denote.Ref.{now}
 use lib.ListN.{length}
-use Rattle.rules.specs.Pictures.{stride}
-use Rattle.picture.proofs.BitShows.{paint-shows, row-in}
-use Rattle.picture.proofs.bits.paint_row.Statement.{statement}
-use Rattle.picture.proofs.bits.paint_row.Tie as tie
+use Rattle.picture.proofs.BitShows.{stored, row-in}
+use Rattle.picture.proofs.bits.store_row.Statement.{statement}
+use Rattle.picture.proofs.bits.store_row.Tie as tie
 
 stride-requires : tie.Need-stride-requires
 stride-requires c κs = search needs
@@ -21,25 +20,25 @@ placed c =
     rw (c .stride .ensures)
     (omega (arith, row-in (a .width) (a .x) (a .x + 1) (a .y + 1) (a .y) (now (a .picture)) p (omega arith)))
 
-mul-paint : tie.Need-mul-paint
-mul-paint c = omega (arith, placed c)
+mul-store : tie.Need-mul-store
+mul-store c = omega (arith, placed c)
 
-add-paint : tie.Need-add-paint
-add-paint c = omega (arith, placed c)
+add-store : tie.Need-add-store
+add-store c = omega (arith, placed c)
 
-paint-requires : tie.Need-paint-requires
-paint-requires c κs = placed c
+store-requires : tie.Need-store-requires
+store-requires c κs = placed c
 
 same-length : tie.Need-same-length
 same-length c = search needs
 
 returns : tie.Need-returns
-returns c = λ n h bs l m e s.
+returns c =
     let d = c .before .before .before in
     let a = d .before .before .before .args in
-    rw (c .before .before .paint .ensures, d .stride .ensures)
-    (paint-shows (a .width) n (a .x) (a .y) (a .byte) bs (now (a .picture)) h (d .before .before .before .pre) l m e s)
+    rw (c .before .before .store .ensures, d .stride .ensures)
+    (stored (a .width) (a .x) (a .y) (a .byte) (now (a .picture)) (rw (d .stride .ensures) at (placed d)))
 
-pub paint-row-spec : {M : Type 1} → statement M
-paint-row-spec =
-    tie.close (tie.spec stride-requires mul-paint add-paint paint-requires same-length returns)
+pub store-row-spec : {M : Type 1} → statement M
+store-row-spec =
+    tie.close (tie.spec stride-requires mul-store add-store store-requires same-length returns)
