@@ -3,3 +3,4 @@ pub mod Bytes
 pub mod Heads
 pub mod Cursors
 pub mod Joins
+pub mod Says
