@@ -4,3 +4,5 @@ pub mod JoinLaws
 pub mod Numbers
 pub mod Names
 pub mod Sheets
+pub mod PartLaws
+pub mod PartsRead

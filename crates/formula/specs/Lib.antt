@@ -4,3 +4,4 @@ pub mod Heads
 pub mod Cursors
 pub mod Joins
 pub mod Says
+pub mod Parts

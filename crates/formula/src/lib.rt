@@ -3,5 +3,6 @@
 mod digits;
 mod head;
 mod joins;
+mod parts;
 mod sheet;
 mod text;
