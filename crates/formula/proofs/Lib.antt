@@ -6,3 +6,4 @@ pub mod Names
 pub mod Sheets
 pub mod PartLaws
 pub mod PartsRead
+pub mod TextLaws

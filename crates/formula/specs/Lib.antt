@@ -5,3 +5,4 @@ pub mod Cursors
 pub mod Joins
 pub mod Says
 pub mod Parts
+pub mod Texts

@@ -4,5 +4,6 @@ mod digits;
 mod head;
 mod joins;
 mod parts;
+pub mod read_text;
 mod sheet;
 mod text;

@@ -93,7 +93,7 @@ fn leaf(list: &mut [i32], c: Cursor, opcode: u32, slot: usize, constant: u32) ->
     )
 }
 
-fn sum(text: &[u8], list: &mut [i32], c: Cursor, slot: usize, depth: u32) -> Read
+pub fn sum(text: &[u8], list: &mut [i32], c: Cursor, slot: usize, depth: u32) -> Read
     requires { ⌜ Room (now text) (now list) c slot depth ⌝ }
     ensures { λ r. ⌜ Reads (SumRead (now (text .entry)) (c .at) depth) (SumStops (now (text .entry)) (c .at) depth)
         (now (text .entry)) c slot (now (list .entry)) (now (list .exit)) r ⌝ }
