@@ -4,3 +4,5 @@ pub mod Heads
 pub mod Cursors
 pub mod Joins
 pub mod Says
+pub mod Parts
+pub mod Texts

@@ -7,8 +7,8 @@ use lib.Dec.{eqb}
 use lib.ListN.{length, drop}
 use Rattle.rules.specs.Values.{pick, firstFault, when}
 use Rattle.rules.specs.Tapes.{tapeBytes}
-use Rattle.rules.specs.FormulaReader.{Answer, done, breaks, deep, reader}
-use Rattle.rules.specs.FormulaTapes.{tapeOf, fitsText}
+use Rattle.formula_rules.specs.FormulaReader.{Answer, done, breaks, deep, reader}
+use Rattle.formula_rules.specs.FormulaTapes.{tapeOf, fitsText}
 
 -- "The lent buffer has 10,248 bytes, else 14 comes first": the head and 1,024 clauses.
 abbrev pub tapeRoom : ℕ
