@@ -161,3 +161,35 @@ fn begins(beginning: &[u8]) -> bool {
 fn number(text: &[u8]) -> u8 {
     raw::read_text(text, &mut [0; TEXT_TAPE]).number
 }
+
+#[cfg(test)]
+mod tests {
+    use super::*;
+
+    /// What a person is shown, up to the refusal's own words.
+    fn shown(text: &str) -> String {
+        let error = Tape::from_text(text).unwrap_err();
+        let words = error.to_string();
+        words.strip_suffix(&error.refusal().to_string()).expect("the refusal's words").to_string()
+    }
+
+    #[test]
+    fn errors_say_where() {
+        assert_eq!(shown(""), "the text ends too early, at byte 0: ");
+        assert_eq!(shown("x*"), "the text ends too early, at byte 2, after `x*`: ");
+        assert_eq!(shown("?"), "no text of a formula has `?` at byte 0: ");
+        assert_eq!(shown("x\n+ y"), "no text of a formula has `\\n` at byte 1, after `x`: ");
+        assert_eq!(shown("x + \u{e9}"), "no text of a formula has `\u{e9}` at byte 4, after `x + `: ");
+        assert_eq!(shown("x + 32768"), "no text of a formula has `8` at byte 8, after `x + 3276`: ");
+        let deep = "(".repeat(33);
+        assert_eq!(shown(&deep), format!("`(` at byte 32 opens inside too many others, after `{}`: ", &deep[..24]));
+        assert_eq!(shown(&vec!["x"; 600].join("+")), "");
+    }
+
+    #[test]
+    fn the_refusal_is_the_source() {
+        let error = "x y".parse::<Tape>().unwrap_err();
+        assert_eq!((error.refusal(), error.at()), (Refusal::BrokenText, Some(2)));
+        assert_eq!(error.source().expect("a source").to_string(), Refusal::BrokenText.to_string());
+    }
+}
