@@ -16,9 +16,9 @@
  * Calls whose buffers are apart may run at once, in several threads. A call cannot be cancelled, and a small input can
  * ask for minutes.
  *
- * Every call takes any input. It returns number, place and count. number 0: done; the whole output or picture is written
- * (of a text's tape no byte behind it), and the whole work buffer is 0. Any other number is a line of the table of refusals: nothing lent has changed, count is 0,
- * and place is the clause at fault for numbers 5 to 9, otherwise 0.
+ * Every call takes any input. It returns number, place and count. number 0: done; the whole output or picture is
+ * written (of a text's tape no byte behind it), and the whole work buffer is 0. Any other number is a line of the table
+ * of refusals: nothing lent has changed, count is 0, and place is the clause at fault for numbers 5 to 9, otherwise 0.
  *
  *    1 tape below 8 bytes
  *    2 head mark, edition or spare bytes wrong

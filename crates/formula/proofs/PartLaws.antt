@@ -1,12 +1,12 @@
 -- How the calls that read parts compose: each from what the calls that it makes promise.
-use mathlib.Core.Path.{_≡_, refl, sym, subst, ap, _∙_}
-use mathlib.Core.List.{List, [], _∷_}
+use mathlib.Core.Path.{_≡_, sym, subst, ap, _∙_}
+use mathlib.Core.List.{List}
 use mathlib.Core.Logic.{_≢_}
 use lib.IntN.{ℤ, pos}
 use Prim.Native.Nat.{ℕ, suc, _+_, _-_, _*_, _≤_, _<_}
 use native.Mathlib.Numerals.{add-one}
 use native.Mathlib.Omega.{arith}
-use lib.ListN.{length, getD}
+use lib.ListN.{length}
 use Rattle.formula_rules.specs.Trees.{Tree, Unary, Binary, unary, binary}
 use Rattle.formula_rules.specs.FormulaTapes.{unaryOpcode, binaryOpcode, step}
 use Rattle.formula_rules.specs.FormulaDepths.{Sheet, clausesAt, emit, emitAll}

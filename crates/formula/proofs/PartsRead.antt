@@ -1,5 +1,5 @@
 -- Sums, products and brackets, from what was read of them.
-use mathlib.Core.Path.{_≡_, refl, sym, subst, ap, _∙_}
+use mathlib.Core.Path.{_≡_, refl, sym, subst, _∙_}
 use mathlib.Core.Bool.{Bool, true, false}
 use mathlib.Core.List.{List}
 use mathlib.Core.Logic.{_≢_}
@@ -8,31 +8,30 @@ use Prim.Native.Nat.{ℕ, suc, _+_, _≤_, _<_}
 use native.Mathlib.Numerals.{add-one}
 use native.Mathlib.Omega.{arith}
 use lib.Dec.{ltb}
-use lib.ListN.{length, getD}
+use lib.ListN.{length}
 use borrow.Author.Tests.{ltb-true, ltb-false}
-use Rattle.formula_rules.specs.Trees.{Tree, negate, unary, binary}
-use Rattle.formula_rules.specs.Formulas.{SumJoin, plus, less, ProductJoin, times, over, sumByte, productByte, sumTree}
-use Rattle.formula_rules.specs.Formulas.{productTree, One, absName, sqrName, rootName, Two, minName, maxName, oneTree}
+use Rattle.formula_rules.specs.Trees.{negate, unary, binary}
+use Rattle.formula_rules.specs.Formulas.{plus, less, times, over, sumTree}
+use Rattle.formula_rules.specs.Formulas.{productTree, absName, sqrName, rootName, Two, minName, maxName, oneTree}
 use Rattle.formula_rules.specs.Formulas.{twoTree}
-use Rattle.formula_rules.specs.FormulaReader.{Opener, opened, called, firstOf, secondOf, Answer, breaks}
+use Rattle.formula_rules.specs.FormulaReader.{Opener, firstOf, secondOf, Answer, breaks}
 use Rattle.formula_rules.specs.FormulaCalls.{NoTimes, NoPlus, Blank, SumUpTo, SumRead, ProductUpTo, ProductRead}
 use Rattle.formula_rules.specs.FormulaCalls.{SignedRead}
 use Rattle.formula_rules.specs.FormulaCalls.{ItemRead, OpenRead, SumStops, ProductStops, SignedStops, ItemStops}
-use Rattle.formula_rules.specs.FormulaTapes.{unaryOpcode, binaryOpcode}
+use Rattle.formula_rules.specs.FormulaTapes.{binaryOpcode}
 use Rattle.formula_rules.proofs.FormulaCalls.{plain-read, minus-read, plain-stops, minus-stops, blank-signed}
-use Rattle.formula_rules.proofs.FormulaCalls.{blank-signed-stops, product-start, product-start-stops, product-blank}
-use Rattle.formula_rules.proofs.FormulaCalls.{product-step, product-step-stops, sum-start, sum-start-stops, sum-step}
+use Rattle.formula_rules.proofs.FormulaCalls.{blank-signed-stops, product-start, product-blank}
+use Rattle.formula_rules.proofs.FormulaCalls.{product-step, product-step-stops, sum-start, sum-step}
 use Rattle.formula_rules.proofs.FormulaCalls.{sum-step-stops}
 use Rattle.formula_rules.proofs.FormulaItems.{bracket-read, call-read, comma-read, pair-read, inner-stops, closeByte}
 use Rattle.formula_rules.proofs.FormulaItems.{not-closed, closed-by-none}
 use Rattle.formula.specs.declared.sheet.Cursor.{Cursor}
 use Rattle.formula.specs.declared.parts.Stop.{Stop}
-use Rattle.formula.specs.declared.parts.Stop.the-variants as stop
 use Rattle.formula.specs.declared.parts.Read.{Read}
 use Rattle.formula.specs.declared.parts.Read.the-variants as read
 use Rattle.formula.specs.Bytes.{byteAt}
 use Rattle.formula.specs.Cursors.{Emitted}
-use Rattle.formula.specs.Heads.{Follows, nothing, one, OneAt, TwoAt, LeafAt, BreaksIn}
+use Rattle.formula.specs.Heads.{Follows, nothing, one, OneAt, TwoAt}
 use Rattle.formula.specs.Joins.{PlusAt, TimesAt, none, some}
 use Rattle.formula.specs.Parts.{unaryClause, binaryClause, movedTo, Got, Reads, EndedBy, NotEnded, inside, after}
 use Rattle.formula.specs.Parts.{answerOf, OneSays, TwoSays}

@@ -9,7 +9,6 @@ use crate::sheet::Cursor;
 use crate::sheet::emit;
 use crate::text::peek;
 use crate::text::skip;
-ghost use mathlib.Core.Path.{_≡_};
 ghost use Prim.Native.Nat.{_+_, _≤_, _<_};
 ghost use Rattle.formula_rules.specs.FormulaCalls.{SumRead, ProductRead, SignedRead, ItemRead};
 ghost use Rattle.formula_rules.specs.FormulaCalls.{SumStops, ProductStops, SignedStops, ItemStops};

@@ -202,8 +202,8 @@ pub fn write_heights(width: u32, height: u32, picture: &[u16], out: &mut [u8]) -
     unsafe { layers_write_heights(width, height, picture.as_ptr(), picture.len(), out.as_mut_ptr(), out.len()) }
 }
 
-/// The tape of a formula that is written as text, to the front of [`TEXT_TAPE`] bytes; its head tells its length, and the
-/// bytes behind it stay.
+/// The tape of a formula that is written as text, to the front of [`TEXT_TAPE`] bytes; its head tells its length, and
+/// the bytes behind it stay.
 pub fn read_text(text: &[u8], out: &mut [u8]) -> Answer {
     unsafe { layers_read_text(text.as_ptr(), text.len(), out.as_mut_ptr(), out.len()) }
 }

@@ -78,9 +78,9 @@ const GREATEST: i32 = i32::MAX;
 refusals! {
     /// A line of the core's table of refusals, in the table's order. Clauses are counted from 0.
     ///
-    /// A [`Tape`](crate::Tape) meets lines 1 to 9, or as text 17 to 19, a drawing of it 10 and 11, a probe 20. Lines 12 to 14 are about lent
-    /// memory, so only the calls of [`raw`](crate::raw) meet them, and 15 and 16 are about the input of the program
-    /// `drawlayer`.
+    /// A [`Tape`](crate::Tape) meets lines 1 to 9, or as text 17 to 19, a drawing of it 10 and 11, a probe 20. Lines 12
+    /// to 14 are about lent memory, so only the calls of [`raw`](crate::raw) meet them, and 15 and 16 are about the
+    /// input of the program `drawlayer`.
     ///
     /// ```
     /// use layers::{Refusal, Tape};

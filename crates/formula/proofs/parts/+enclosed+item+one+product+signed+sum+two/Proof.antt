@@ -1,6 +1,6 @@
 -- The circle of calls meets its contracts: sums, products, signed items, items and what their brackets hold. Each call
 -- is below its caller by the bytes that are left, six to a byte, and at the same place by its rank.
-use mathlib.Core.Path.{_≡_, sym, _∙_, subst}
+use mathlib.Core.Path.{_∙_, subst}
 use Prim.Native.Nat.{ℕ, _+_, _-_, _*_, _≤_, _<_}
 use native.Mathlib.Omega.{arith}
 use borrow.Author.Needs.{needs}

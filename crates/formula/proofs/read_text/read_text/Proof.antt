@@ -1,5 +1,5 @@
 -- `read_text` meets its promise: 14, then 17 or 18, then 19, or the tape in front of the bytes that stay.
-use mathlib.Core.Path.{_≡_, subst, _∙_}
+use mathlib.Core.Path.{_≡_, subst}
 use Prim.Native.Nat.{_≤_}
 use native.Mathlib.Omega.{arith}
 use lib.ListN.{length}
