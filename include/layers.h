@@ -16,9 +16,9 @@
  * Calls whose buffers are apart may run at once, in several threads. A call cannot be cancelled, and a small input can
  * ask for minutes.
  *
- * Every call takes any input. It returns number, place and count. number 0: done; the whole output or picture is written,
- * and the whole work buffer is 0. Any other number is a line of the table of refusals: nothing lent has changed, count is 0,
- * and place is the clause at fault for numbers 5 to 9, otherwise 0.
+ * Every call takes any input. It returns number, place and count. number 0: done; the whole output or picture is
+ * written (of a text's tape no byte behind it), and the whole work buffer is 0. Any other number is a line of the table
+ * of refusals: nothing lent has changed, count is 0, and place is the clause at fault for numbers 5 to 9, otherwise 0.
  *
  *    1 tape below 8 bytes
  *    2 head mark, edition or spare bytes wrong
@@ -33,7 +33,10 @@
  *   11 a step below 1, or an origin, z or last sample outside -2,147,483,647 to 2,147,483,647
  *   12 picture buffer not of the exact length
  *   13 work buffer below 32,768 bytes
- *   14 packing, unpacking or file: output not of the exact length
+ *   14 packing, unpacking, text or file: output not of the exact length
+ *   17 text: the rules of a formula broken
+ *   18 text: a bracket, a function's too, that opens inside 32 others
+ *   19 text: more than 1,024 clauses or 64 slots needed
  *   20 probe: a coordinate not a number, infinite, or above 32,767 in magnitude
  */
 #ifndef LAYERS_H
@@ -47,6 +50,7 @@ extern "C" {
 #endif
 
 #define LAYERS_WORK 32768
+#define LAYERS_TEXT_TAPE 10248
 
 typedef struct {
     uint8_t number;
@@ -101,6 +105,13 @@ typedef struct {
  */
 LayersAnswer layers_pack_tape(uint32_t slots, const int32_t *list, size_t list_len, uint8_t *out, size_t out_len);
 LayersListed layers_unpack_tape(const uint8_t *tape, size_t tape_len, int32_t *out, size_t out_len);
+
+/*
+ * A formula as text, such as max(root(sqr(x) + sqr(y)) - 12.5, abs(z) - 2), to a tape; README.md has the rules. out has
+ * LAYERS_TEXT_TAPE bytes. The tape goes to its front, the bytes behind it stay, and its length is
+ * 8 + 10 * (out[4] + 256 * out[5]).
+ */
+LayersAnswer layers_read_text(const uint8_t *text, size_t text_len, uint8_t *out, size_t out_len);
 
 /* The full drawings: a flat picture has (width + 7) / 8 bytes a row, a solid one 16-bit height a pixel. */
 LayersAnswer layers_draw_flat(const uint8_t *tape, size_t tape_len, LayersGrid grid, uint8_t *picture, size_t picture_len);

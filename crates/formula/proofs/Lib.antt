@@ -4,3 +4,6 @@ pub mod JoinLaws
 pub mod Numbers
 pub mod Names
 pub mod Sheets
+pub mod PartLaws
+pub mod PartsRead
+pub mod TextLaws

@@ -3,3 +3,6 @@ pub mod Bytes
 pub mod Heads
 pub mod Cursors
 pub mod Joins
+pub mod Says
+pub mod Parts
+pub mod Texts

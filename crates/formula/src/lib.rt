@@ -3,5 +3,7 @@
 mod digits;
 mod head;
 mod joins;
+mod parts;
+pub mod read_text;
 mod sheet;
 mod text;

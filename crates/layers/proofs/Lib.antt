@@ -6,3 +6,4 @@ pub mod Tiling
 pub mod DemandTwo
 pub mod DemandThree
 pub mod Probes
+pub mod Texts

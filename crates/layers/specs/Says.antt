@@ -13,6 +13,8 @@ use Rattle.rules.specs.Pictures.{stride, picture, pictureSize, bitmapFile, heig
 use Rattle.picture.specs.Shapes.{gridIn}
 use Rattle.picture.specs.declared.grid.Grid.{Grid}
 use Rattle.packing.specs.Packing.{copyFault}
+use Rattle.formula_rules.specs.FormulaReader.{reader}
+use Rattle.formula.specs.Says.{textFault, answerBytes, inFront}
 use Rattle.netpbm.specs.Files.{fileFault}
 use Rattle.rules.specs.Probes.{probeFault, probedValue}
 use Rattle.probe.specs.Points.{pointIn}
@@ -45,6 +47,12 @@ pub record UnpackSays (s : List ℕ) (o o′ : List ℤ) (r : Listed) : Type 0 w
   pub slots : let g = readTape s in
       r .slots ≡ pick (eqb (copyFault g (listOf (g .tape .clauses)) o) 0) (g .tape .slots) 0
   pub out : let b = listOf (readTape s .tape .clauses) in o′ ≡ written (copyFault (readTape s) b o) b o
+
+-- A formula's text: "The lent buffer has 10,248 bytes, else 14 comes first; bytes after the tape stay", then 17, 18, 19,
+-- "with place 0". Nothing is counted.
+pub record TextAnswered (text o o′ : List ℕ) (r : Answer) : Type 0 where
+  pub answer : Answered (textFault text o) 0 0 r
+  pub out : o′ ≡ written (textFault text o) (inFront (answerBytes (reader text)) o) o
 
 -- "file making 10, 12, 14": n is the picture's length as it must be, b the file.
 pub record FileSays (w h n : ℕ) (p b o o′ : List ℕ) (r : Answer) : Type 0 where

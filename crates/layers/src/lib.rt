@@ -15,7 +15,7 @@ pub use probing::probe_side;
 pub use solid::draw_solid;
 pub use solid::tile_solid;
 ghost use mathlib.Core.Path.{_≡_};
-ghost use Rattle.layers.specs.Says.{PackSays, UnpackSays, BitmapSays, HeightsSay};
+ghost use Rattle.layers.specs.Says.{PackSays, UnpackSays, BitmapSays, HeightsSay, TextAnswered};
 
 // The least length of a work buffer.
 pub const WORK_LIMIT: usize = 32768;
@@ -84,4 +84,10 @@ pub fn write_heights(width: u32, height: u32, picture: &[u16], out: &mut [u8]) -
     ensures { λ r. ⌜ HeightsSay width height (now (picture .entry)) (now (out .entry)) (now (out .exit)) r ⌝ }
 {
     refused(netpbm::file::write_heights(width, height, picture, out), 0)
+}
+
+pub fn read_text(text: &[u8], out: &mut [u8]) -> Answer
+    ensures { λ r. ⌜ TextAnswered (now (text .entry)) (now (out .entry)) (now (out .exit)) r ⌝ }
+{
+    refused(formula::read_text::read_text(text, out) as u8, 0)
 }

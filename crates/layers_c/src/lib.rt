@@ -7,7 +7,7 @@ use picture::grid::Grid;
 use probe::point::Point;
 ghost use mathlib.Core.Bool.{true, false};
 ghost use Rattle.layers.specs.Says.{PackSays, UnpackSays, FullSays, TilesSay, BitmapSays, HeightsSay};
-ghost use Rattle.layers.specs.Says.{SidedSays};
+ghost use Rattle.layers.specs.Says.{SidedSays, TextAnswered};
 
 #[no_mangle]
 pub extern "C" fn layers_pack_tape(slots: u32, list: &[i32], out: &mut [u8]) -> Answer
@@ -92,4 +92,11 @@ pub extern "C" fn layers_probe(tape: &[u8], point: Point) -> Sided
     ensures { λ r. ⌜ SidedSays (now (tape .entry)) point r ⌝ }
 {
     layers::probe_side(tape, point)
+}
+
+#[no_mangle]
+pub extern "C" fn layers_read_text(text: &[u8], out: &mut [u8]) -> Answer
+    ensures { λ r. ⌜ TextAnswered (now (text .entry)) (now (out .entry)) (now (out .exit)) r ⌝ }
+{
+    layers::read_text(text, out)
 }

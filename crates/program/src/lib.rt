@@ -2,7 +2,7 @@
 mod buffers;
 mod flat;
 mod layer;
-mod lines;
+pub mod lines;
 mod record;
 mod solid;
 

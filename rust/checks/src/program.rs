@@ -59,7 +59,12 @@ pub struct Ran {
 
 /// The command of the built program.
 pub fn command() -> Command {
-    let path = Path::new(env!("CARGO_MANIFEST_DIR")).join("../../target/bin/drawlayer");
+    built("drawlayer")
+}
+
+/// A program of the repository.
+pub fn built(name: &str) -> Command {
+    let path = Path::new(env!("CARGO_MANIFEST_DIR")).join("../../target/bin").join(name);
     assert!(path.exists(), "{} is not there: run rt check first", path.display());
     Command::new(path)
 }
@@ -109,7 +114,16 @@ fn collect(mut from: impl Read + Send + 'static) -> Receiver<Vec<u8>> {
 
 /// Runs the program on the input, given in pieces with a pause after each.
 pub fn run_in_pieces(input: &[u8], piece: usize, pause: Duration) -> Ran {
-    let mut child = start(command());
+    run_of(command(), input, piece, pause)
+}
+
+/// Runs the reader of texts.
+pub fn read_text(text: &[u8]) -> Ran {
+    run_of(built("readtext"), text, text.len().max(1), Duration::ZERO)
+}
+
+fn run_of(command: Command, input: &[u8], piece: usize, pause: Duration) -> Ran {
+    let mut child = start(command);
     let (to, bytes) = (child.stdin.take().unwrap(), input.to_vec());
     let feeder = thread::spawn(move || feed(to, &bytes, piece, pause));
     let pipes = [collect(child.stdout.take().unwrap()), collect(child.stderr.take().unwrap())];

@@ -6,7 +6,7 @@ use crate::random::Random;
 use crate::trees::{random_tree, spaced};
 use layers::raw;
 use slow::call::Answer;
-use slow::text::OUTPUT;
+use slow::text::{self, Fault, OUTPUT};
 
 /// Text to read into that many bytes.
 #[derive(Clone)]
@@ -22,23 +22,17 @@ impl Reading {
     }
 
     /// Both readers' answer, or how they differ in it or in any byte of the buffer, full of noise before.
-    pub fn compare(
-        &self,
-        noise: &mut Random,
-        core: impl FnOnce(&[u8], &mut [u8]) -> raw::Answer,
-        slow: impl FnOnce(&[u8], &mut [u8]) -> Answer,
-    ) -> Result<Answer, String> {
-        self.compare_on(&noise.bytes(self.out), core, slow)
+    pub fn compare(&self, noise: &mut Random) -> Result<Answer, String> {
+        self.compare_on(&noise.bytes(self.out), None)
     }
 
-    /// The same on a buffer that is given.
-    pub fn compare_on(
-        &self,
-        lent: &Vec<u8>,
-        core: impl FnOnce(&[u8], &mut [u8]) -> raw::Answer,
-        slow: impl FnOnce(&[u8], &mut [u8]) -> Answer,
-    ) -> Result<Answer, String> {
-        let said = both("read_text", lent, |out| core(&self.text, out), |out| slow(&self.text, out));
+    /// The same on a buffer that is given, with a fault planted in the slow reader.
+    pub fn compare_on(&self, lent: &Vec<u8>, fault: Option<Fault>) -> Result<Answer, String> {
+        let slow = |out: &mut Vec<u8>| match fault {
+            Some(fault) => text::faulty(fault, &self.text, out),
+            None => text::read_text(&self.text, out),
+        };
+        let said = both("read_text", lent, |out| raw::read_text(&self.text, out), slow);
         let shown = &self.text[..self.text.len().min(2_000)];
         said.map_err(|e| format!("{e}: {:?} of {} bytes", String::from_utf8_lossy(shown), self.text.len()))
     }

@@ -1,6 +1,7 @@
 //! The proved layer core for Rust: pictures of implicit parts, drawn exactly.
 //!
-//! A part is a formula, flattened into a [`Tape`] of small steps, each a [`Clause`]. A sample has material exactly if
+//! A part is a formula, flattened into a [`Tape`] of small steps, each a [`Clause`]. [`Tape::from_text`] does this for
+//! one that is typed, such as `max(root(sqr(x) + sqr(y)) - 12, 4 - z)`. A sample has material exactly if
 //! the formula is below 0 there. A [`Grid`] says where the samples are. A [`Bitmap`] is one layer of the part, a
 //! [`Heightmap`] the part seen from above; [`Tape::probe`] gives the formula at one point. Values are whole numbers
 //! that count units of 1/65,536: [`fixed`] makes them.
@@ -40,6 +41,7 @@ mod netpbm;
 mod probe;
 mod refusal;
 mod tape;
+mod text;
 
 pub use bitmap::Bitmap;
 pub use clause::{Clause, Opcode};
@@ -51,6 +53,7 @@ pub use probe::Probe;
 pub use raw::Grid;
 pub use refusal::Refusal;
 pub use tape::{FIRST_EDITION_CLAUSES, FIRST_EDITION_SLOTS, MAX_CLAUSES, MAX_SLOTS, Tape};
+pub use text::TextError;
 
 /// The README's example runs with the other examples.
 #[cfg(doctest)]

@@ -1,8 +1,8 @@
 //! The calls as the core has them: lent slices in, an answer by number out. The C interface is include/layers.h's. All
 //! unsafe code is here.
 //!
-//! Done, a call has written the whole output or picture and cleared the whole work buffer. Refused, it has changed
-//! nothing.
+//! Done, a call has written the whole output or picture and cleared the whole work buffer; a text's tape alone leaves
+//! what is behind it. Refused, it has changed nothing.
 
 /// What comes back of every call. [`into_result`](Answer::into_result) makes Rust's own form of it.
 #[repr(C)]
@@ -92,6 +92,9 @@ pub struct Grid {
 /// beside the tape as given.
 pub const WORK: usize = 32_768;
 
+/// The length of the buffer that a text's tape is written to: that of the longest, 1,024 clauses.
+pub const TEXT_TAPE: usize = 10_248;
+
 unsafe extern "C" {
     fn layers_pack_tape(slots: u32, list: *const i32, list_len: usize, out: *mut u8, out_len: usize) -> Answer;
     fn layers_unpack_tape(tape: *const u8, tape_len: usize, out: *mut i32, out_len: usize) -> Listed;
@@ -132,6 +135,7 @@ unsafe extern "C" {
         out: *mut u8,
         out_len: usize,
     ) -> Answer;
+    fn layers_read_text(text: *const u8, text_len: usize, out: *mut u8, out_len: usize) -> Answer;
     fn layers_probe(tape: *const u8, tape_len: usize, point: Point) -> Probed;
 }
 
@@ -196,6 +200,12 @@ pub fn write_bitmap(width: u32, height: u32, picture: &[u8], out: &mut [u8]) -> 
 /// The Netpbm grey file of a solid's heights.
 pub fn write_heights(width: u32, height: u32, picture: &[u16], out: &mut [u8]) -> Answer {
     unsafe { layers_write_heights(width, height, picture.as_ptr(), picture.len(), out.as_mut_ptr(), out.len()) }
+}
+
+/// The tape of a formula that is written as text, to the front of [`TEXT_TAPE`] bytes; its head tells its length, and
+/// the bytes behind it stay.
+pub fn read_text(text: &[u8], out: &mut [u8]) -> Answer {
+    unsafe { layers_read_text(text.as_ptr(), text.len(), out.as_mut_ptr(), out.len()) }
 }
 
 /// The formula at a point, each coordinate rounded down to a unit.

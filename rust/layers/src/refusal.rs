@@ -1,6 +1,6 @@
 //! Why an input is turned down.
 
-use crate::raw::{Answer, WORK};
+use crate::raw::{Answer, TEXT_TAPE, WORK};
 use crate::{FIRST_EDITION_CLAUSES, FIRST_EDITION_SLOTS, MAX_CLAUSES, MAX_SIZE, MAX_SLOTS, Opcode};
 use std::error::Error;
 use std::fmt;
@@ -78,9 +78,9 @@ const GREATEST: i32 = i32::MAX;
 refusals! {
     /// A line of the core's table of refusals, in the table's order. Clauses are counted from 0.
     ///
-    /// A [`Tape`](crate::Tape) meets lines 1 to 9, a drawing of it 10 and 11, a probe 20. Lines 12 to 14 are about lent
-    /// memory, so only the calls of [`raw`](crate::raw) meet them, and 15 and 16 are about the input of the program
-    /// `drawlayer`.
+    /// A [`Tape`](crate::Tape) meets lines 1 to 9, or as text 17 to 19, a drawing of it 10 and 11, a probe 20. Lines 12
+    /// to 14 are about lent memory, so only the calls of [`raw`](crate::raw) meet them, and 15 and 16 are about the
+    /// input of the program `drawlayer`.
     ///
     /// ```
     /// use layers::{Refusal, Tape};
@@ -122,12 +122,21 @@ refusals! {
          a heightmap one height for each pixel";
     13 WorkLength, "work buffer below 32,768 bytes",
         "the work buffer is too short: it needs {WORK} bytes";
-    14 OutputLength, "packing, unpacking or file: output not of the exact length",
-        "the output buffer has the wrong length: it must be that of the tape, list or file to be written";
+    14 OutputLength, "packing, unpacking, text or file: output not of the exact length",
+        "the output buffer has the wrong length: it must be that of the tape, list or file to be written, for a text's \
+         tape {TEXT_TAPE}";
     15 NoGridRecord, "program: input below 32 bytes or grid mark wrong",
         "the input must begin with a grid record of 32 bytes, the first two of them 47 52, before the tape";
     16 SolidTooLarge, "program: depth above 0 and width or height above 128",
         "the program draws solids up to 128 wide and 128 high: draw a smaller grid, or set depth to 0 for a bitmap";
+    17 BrokenText, "text: the rules of a formula broken",
+        "a formula has numbers such as 12.5, x, y, z, + - * /, brackets, abs, sqr and root of one, min and max of two, \
+         and spaces, no other bytes";
+    18 DeepBracket, "text: a bracket, a function's too, that opens inside 32 others",
+        "at most 32 brackets may be open at once: write a long min or max in halves";
+    19 LargeFormula, "text: more than 1,024 clauses or 64 slots needed",
+        "the formula needs more than {FIRST_EDITION_CLAUSES} clauses, one for each number, axis and operation, or \
+         more than {FIRST_EDITION_SLOTS} slots, one for each operand that waits: split the part";
     20 CoordinateOutOfRange, "probe: a coordinate not a number, infinite, or above 32,767 in magnitude",
         "each coordinate of a point must be a number from -32767 to 32767";
 }

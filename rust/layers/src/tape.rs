@@ -88,6 +88,12 @@ impl Tape {
         Tape::from_list(slots, &list)
     }
 
+    /// The tape that the core has written to the front of these bytes.
+    pub(crate) fn written(mut bytes: Vec<u8>) -> Tape {
+        bytes.truncate(HEAD_BYTES + CLAUSE_BYTES * counted(&bytes));
+        Tape { bytes }
+    }
+
     /// The list, five numbers to a clause.
     pub fn to_list(&self) -> Vec<i32> {
         unpacked(&self.bytes).expect("the tape was accepted")
@@ -133,12 +139,16 @@ impl AsRef<[u8]> for Tape {
 /// The list of a tape. The output has the length that the head asks for, so line 14 never holds, and lines 1 to 9 alone
 /// turn bytes down.
 fn unpacked(bytes: &[u8]) -> Result<Vec<i32>, Refusal> {
-    let clauses = match bytes {
+    let (list, _) = filled(LIST_NUMBERS * counted(bytes), |out| raw::unpack_tape(bytes, out).answer)?;
+    Ok(list)
+}
+
+/// The clauses that a head counts.
+fn counted(bytes: &[u8]) -> usize {
+    match bytes {
         [_, _, _, _, low, high, ..] => u16::from_le_bytes([*low, *high]).into(),
         _ => 0,
-    };
-    let (list, _) = filled(LIST_NUMBERS * clauses, |out| raw::unpack_tape(bytes, out).answer)?;
-    Ok(list)
+    }
 }
 
 #[cfg(test)]

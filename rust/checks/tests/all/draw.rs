@@ -1,8 +1,10 @@
 //! The script `./draw`, run as a person would, in a scratch repository where everything is proved: `rt`, `cargo` and
-//! the preview are stubs there, the program is the proved one. Most are failures that once looked like success, hung or
+//! the preview are stubs there, the programs are the proved ones. Most are failures that once looked like success, hung or
 //! said nothing.
 
 use checks::program;
+use slow::draw::Grid;
+use slow::text::tape;
 use std::ffi::OsString;
 use std::fs::{self, File};
 use std::io::Write;
@@ -68,7 +70,9 @@ impl Scratch {
         fs::write(scratch.at("repo/crates.txt"), CRATES).unwrap();
         let draw = fs::read_to_string(in_repository("draw")).unwrap();
         scratch.script("repo/draw", draw.strip_prefix("#!/bin/sh\n").expect("a script"));
-        symlink(program::command().get_program(), scratch.at("repo/target/bin/drawlayer")).unwrap();
+        for name in ["drawlayer", "readtext"] {
+            symlink(program::built(name).get_program(), scratch.at("repo/target/bin").join(name)).unwrap();
+        }
         scratch.script("repo/target/cargo/release/preview", "printf PNG > \"$3\"");
         scratch.script("bin/cargo", "");
         scratch.script("bin/rt", "echo 'rt: ok'");
@@ -357,4 +361,149 @@ fn without_number_before(line: &str, mark: &str) -> String {
         Some((start, end)) => format!("{}{mark}{end}", start.trim_end_matches(|c: char| c.is_ascii_digit())),
         None => line.to_string(),
     }
+}
+
+/// The program's input for a text on a grid.
+fn packed(text: &str, grid: Grid) -> Vec<u8> {
+    program::input(&grid, &tape(text.as_bytes(), None).expect("a formula").to_bytes())
+}
+
+const RING: &str = "max(root(sqr(x) + sqr(y)) - 24, 8 - root(sqr(x) + sqr(y)))";
+
+/// Where a text names no grid.
+const USUAL: Grid = Grid { sizes: [512, 512, 0], origins: [-32 << 16, -32 << 16, 0], steps: [8_192; 3] };
+
+impl Scratch {
+    /// The input of this name is drawn as the program draws that.
+    fn drew_as(&self, ran: &Ran, picture: &str, input: &[u8]) {
+        assert_eq!((ran.code, &ran.complaint[..]), (Some(0), ""));
+        let drawn = fs::read(self.at("repo/out").join(picture)).unwrap();
+        assert!(drawn == program::run(input).first, "{picture}");
+        assert!(ran.said.contains(&format!("out/{picture}: ")), "{}", ran.said);
+    }
+}
+
+#[test]
+fn a_text() {
+    let s = Scratch::new("a_text");
+    s.input("ring.txt", format!("{RING}\n").as_bytes());
+    let ran = s.draw(&["ring.txt"]);
+    s.drew_as(&ran, "ring.pbm", &packed(RING, USUAL));
+    assert_eq!(s.pictures(), ["ring.pbm", "ring.png"]);
+}
+
+/// Grids in a line of their own, texts over several lines, with and without an end of the last.
+#[test]
+fn texts_with_their_grids() {
+    let s = Scratch::new("texts_with_their_grids");
+    let half = Grid { sizes: [40, 24, 0], origins: [-655_360, 22_937, -6_554], steps: [32_768; 3] };
+    let solid = Grid { sizes: [16, 8, 12], origins: [-8 << 16, -4 << 16, 0], steps: [65_536, 65_536, 6_553] };
+    let lines = "# layer 40 24 from -10 0.35 -0.1 step 0.5";
+    let texts = [
+        ("a.txt", format!("{lines}\n{RING}"), "a.pbm", packed(RING, half)),
+        ("b.txt", format!("#\r\n{lines}\r\nx\r\n -\r\ny"), "b.pbm", packed("x - y", half)),
+        (
+            "c.txt",
+            "# a bar\n#solid 16 8 12   from -8 -4 0 step 1 1 0.1\nabs(y) - 2\n# its end\n + z".into(),
+            "c.pgm",
+            packed("abs(y) - 2 + z", solid),
+        ),
+        ("d.txt", "# layering: none\nx".into(), "d.pbm", packed("x", USUAL)),
+    ];
+    for (name, text, picture, input) in texts {
+        s.input(name, text.as_bytes());
+        s.drew_as(&s.draw(&[name]), picture, &input);
+    }
+}
+
+/// The parts that are checked in as text.
+#[test]
+fn the_example_texts() {
+    let s = Scratch::new("the_example_texts");
+    let solid = Grid { sizes: [128, 128, 80], origins: USUAL.origins, steps: [32_768, 32_768, 16_384] };
+    for (name, picture, grid) in [("gasket.txt", "gasket.pbm", USUAL), ("pulley.txt", "pulley.pgm", solid)] {
+        let file = fs::read_to_string(in_repository("examples").join(name)).unwrap();
+        let lines: Vec<&str> = file.lines().filter(|line| !line.starts_with('#')).collect();
+        s.input(name, file.as_bytes());
+        s.drew_as(&s.draw(&[name]), picture, &packed(&lines.join(" "), grid));
+    }
+}
+
+/// What a newcomer types first.
+#[test]
+fn the_readme_shows_a_text() {
+    let readme = fs::read_to_string(in_repository("README.md")).unwrap();
+    assert!(readme.contains(&format!("echo '{RING}' > ring.txt\n./draw ring.txt\n")));
+}
+
+/// The complaint of a text that is refused.
+fn complaint(test: &str, text: &[u8]) -> String {
+    let s = Scratch::new(test);
+    s.input("x.txt", text);
+    let ran = s.draw(&["x.txt"]);
+    s.drew_nothing(&ran, &ran.complaint);
+    ran.complaint
+}
+
+#[test]
+fn a_broken_text() {
+    let refused = "draw: x.txt: refused 17 at 0 (text: the rules of a formula broken)\n";
+    let complained = complaint("a_broken_text", b"# a part\nmax(x,\n  min(y; z))\n");
+    assert_eq!(
+        complained,
+        format!("{refused}draw: x.txt, line 3, byte 8: the reader stopped here\n      min(y; z))\n           ^\n")
+    );
+    let complained = complaint("a_text_of_other_bytes", b"x + 1\xFF\x00");
+    assert_eq!(
+        complained,
+        format!("{refused}draw: x.txt, line 1, byte 6: the reader stopped here\n    x + 1??\n         ^\n")
+    );
+    for (test, text) in [("an_empty_text", ""), ("a_text_that_ends_early", "# layer 8 8 from 0 0 0 step 1\nroot(x\n")] {
+        assert_eq!(complaint(test, text.as_bytes()), format!("{refused}draw: x.txt: the text ends too early\n"));
+    }
+}
+
+#[test]
+fn a_text_too_deep_or_too_large() {
+    let complained = complaint("a_text_too_deep", format!("x*{}", "(".repeat(40)).as_bytes());
+    let at = "draw: x.txt, line 1, byte 35: the reader stopped here\n";
+    let refused = "draw: x.txt: refused 18 at 0 (text: a bracket, a function's too, that opens inside 32 others)\n";
+    assert!(complained.starts_with(&format!("{refused}{at}    x*((((")), "{complained}");
+    let complained = complaint("a_text_too_large", vec!["x"; 600].join("+").as_bytes());
+    assert_eq!(complained, "draw: x.txt: refused 19 at 0 (text: more than 1,024 clauses or 64 slots needed)\n");
+    let complained = complaint("a_text_too_long", &[b' '; 61_481]);
+    assert_eq!(complained, "draw: x.txt: a text has at most 61,480 bytes\n");
+}
+
+#[test]
+fn a_grid_that_is_none() {
+    let usual = "# layer 8 8 from 0 0 0 step 1";
+    let grids = [
+        "# layer 8 8 from 0 0 step 1",
+        "# layer 8 8 from 0 0 0 step",
+        "# layer 8 8 from 0 0 0 step 1 1",
+        "# layer 8 -8 from 0 0 0 step 1",
+        "# layer 8 65536 from 0 0 0 step 1",
+        "# layer 8 8 from 0 0 1e3 step 1",
+        "# layer 8 8 from 0 0 32768 step 1",
+        "# solid 8 8 from 0 0 0 step 1",
+        "# solid 8 8 0 from 0 0 0 step 1",
+        &format!("{usual}\n{usual}"),
+    ];
+    let expected = "draw: x.txt: the grid is not '# layer WIDTH HEIGHT from X Y Z step S' or '# solid WIDTH HEIGHT DEPTH \
+                    from X Y Z step S'\n";
+    for grid in grids {
+        assert_eq!(complaint("a_grid_that_is_none", format!("{grid}\nx").as_bytes()), expected, "{grid}");
+    }
+    // the program's own refusals
+    let complained = complaint("a_grid_too_large", b"# layer 600 8 from 0 0 0 step 1\nx");
+    assert_eq!(complained, "draw: x.txt: refused 10 at 0 (a size not 1 to 512)\n");
+}
+
+#[test]
+fn a_reader_that_crashes() {
+    let s = Scratch::new("a_reader_that_crashes");
+    s.input("x.txt", RING.as_bytes());
+    s.script("repo/target/bin/readtext", "kill -s KILL $$");
+    s.drew_nothing(&s.draw(&["x.txt"]), "draw: x.txt: the reader ended with status 137 and read nothing\n");
 }

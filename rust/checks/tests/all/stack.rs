@@ -1,4 +1,4 @@
-//! The stack that the drawings by tiles and a probe take.
+//! The stack that the drawings by tiles, a probe and the reader of texts take.
 
 use crate::probe::core;
 use checks::compare::answer;
@@ -7,6 +7,7 @@ use checks::lists::List;
 use slow::call::tile;
 use slow::draw::Grid;
 use slow::seen::{self, Event};
+use slow::text::OUTPUT;
 
 /// What a thread itself takes of its stack, and some room.
 const THREAD: usize = 8 * 1024;
@@ -72,5 +73,25 @@ fn edition_02_uses_more_stack() {
 fn probes_use_little_stack() {
     for list in [mixed(64, 1024), mixed(3, 7), mixed(128, 6144), mixed(65, 70)] {
         probes_on(64 * 1024, list);
+    }
+}
+
+/// The reader has a list of 1,024 clauses, and calls itself for every bracket that is open.
+#[test]
+fn texts_use_little_stack() {
+    let nested = |open: &str, inner: &str| open.repeat(32) + inner + &")".repeat(32);
+    let texts = [
+        nested("(", "x"),
+        nested("-x*y-z/-min(x+y, x-y*-", "x"),
+        nested("max(x,", &vec!["x"; 400].join("*")),
+        nested("root(", &vec!["x"; 2_000].join("+")),
+        "(".repeat(40),
+    ];
+    for text in texts {
+        let mut out = vec![0; OUTPUT];
+        let expected = slow::text::read_text(text.as_bytes(), &mut out);
+        let read = move || answer(layers::raw::read_text(text.as_bytes(), &mut vec![0; OUTPUT]));
+        let thread = std::thread::Builder::new().stack_size(64 * 1024 + THREAD).spawn(read).expect("a thread");
+        assert_eq!(thread.join().expect("no overflow"), expected);
     }
 }

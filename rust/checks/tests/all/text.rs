@@ -1,26 +1,21 @@
 //! Formulas as text against the slow reader, and the slow reader against the grammar: figures of the request, random
-//! trees written and read back, damage, long texts, refusals, planted faults.
+//! trees written and read back, damage, where a reader stopped, long texts, refusals, planted faults.
 
 use checks::grammar::{BYTES, Grammar};
+use checks::program;
 use checks::random::{Random, cases};
 use checks::text::{Reading, damage, limit};
 use checks::trees::{random_tree, spaced};
-use layers::raw;
+use layers::{TextError, raw};
 use slow::call::Answer;
 use slow::compile;
 use slow::tape::Tape;
 use slow::text::{self, Fault, OUTPUT, Stopped};
 
-/// The call that is tried.
-fn tried(text: &[u8], out: &mut [u8]) -> raw::Answer {
-    let Answer { number, place, count } = text::read_text(text, out);
-    raw::Answer { number, place, count }
-}
-
 /// The number that comes back for a text.
 fn number(text: impl Into<Vec<u8>>) -> u8 {
     let mut noise = Random::new(0x5EED_0050);
-    let said = Reading::new(text).compare(&mut noise, tried, text::read_text).unwrap_or_else(|e| panic!("{e}"));
+    let said = Reading::new(text).compare(&mut noise).unwrap_or_else(|e| panic!("{e}"));
     assert_eq!((said.place, said.count), (0, 0));
     said.number
 }
@@ -29,7 +24,7 @@ fn number(text: impl Into<Vec<u8>>) -> u8 {
 fn tape(text: &str) -> Tape {
     assert_eq!(number(text), 0, "{text}");
     let mut out = [0; OUTPUT];
-    tried(text.as_bytes(), &mut out);
+    raw::read_text(text.as_bytes(), &mut out);
     let clauses = u16::from_le_bytes([out[4], out[5]]) as usize;
     Tape::from_bytes(&out[..8 + 10 * clauses]).expect("an accepted tape")
 }
@@ -115,7 +110,7 @@ fn order_of_refusals() {
     for (text, alone) in texts {
         for out in [0, 1, 18, 68, OUTPUT - 1, OUTPUT, OUTPUT + 1, 65_536] {
             let reading = Reading { text: text.into(), out };
-            let said = reading.compare(&mut noise, tried, text::read_text).unwrap_or_else(|e| panic!("{e}"));
+            let said = reading.compare(&mut noise).unwrap_or_else(|e| panic!("{e}"));
             assert_eq!(said, Answer { number: if out == OUTPUT { alone } else { 14 }, place: 0, count: 0 });
         }
     }
@@ -151,7 +146,7 @@ fn every_short_text(bytes: &[u8], longest: usize) -> usize {
     let mut check = |text: &[u8], expected: [Option<Stopped>; 3]| {
         let found = [32, 2, 1].map(|brackets| text::tree_within(text, brackets, None).err());
         assert_eq!(found, expected, "{:?}", String::from_utf8_lossy(text));
-        let said = Reading::new(text).compare_on(&lent, tried, text::read_text).unwrap_or_else(|e| panic!("{e}"));
+        let said = Reading::new(text).compare_on(&lent, None).unwrap_or_else(|e| panic!("{e}"));
         assert_eq!(said.number, expected[0].map_or(0, |stopped| stopped.number));
         tried_texts += 1;
     };
@@ -231,7 +226,7 @@ fn random_trees_are_read_back() {
     for _ in 0..cases {
         let tree = random_tree(&mut r);
         let reading = Reading::new(spaced(&tree, &mut r));
-        let said = reading.compare(&mut noise, tried, text::read_text).unwrap_or_else(|e| panic!("{e}"));
+        let said = reading.compare(&mut noise).unwrap_or_else(|e| panic!("{e}"));
         numbers[said.number as usize] += 1;
         let text = String::from_utf8_lossy(&reading.text).into_owned();
         match said.number {
@@ -243,6 +238,7 @@ fn random_trees_are_read_back() {
         assert_eq!(read.ordered(), tree.ordered(), "{text}");
         if said.number == 0 {
             let tape = self::tape(&text);
+            assert_eq!(layers::Tape::from_text(&text).expect("a formula").as_bytes(), tape.to_bytes());
             for _ in 0..3 {
                 let sample = [0; 3].map(|_| coordinate(&mut r));
                 assert_eq!(tape.value_at(sample), tree.meaning(sample), "{text} at {sample:?}");
@@ -263,7 +259,7 @@ fn damage_at_every_byte() {
         for at in 0..=text.len() {
             let mut damaged = text.clone();
             damage(&mut r, &mut damaged, at);
-            let said = Reading::new(damaged).compare_on(&lent, tried, text::read_text);
+            let said = Reading::new(damaged).compare_on(&lent, None);
             numbers[said.unwrap_or_else(|e| panic!("{e}")).number as usize] += 1;
         }
     }
@@ -287,6 +283,52 @@ fn stops_are_the_first() {
             assert_eq!([stop(&text[..=stopped.at]), stop(&after)], [Some(stopped); 2]);
         }
     }
+}
+
+/// Where the wrapper says that the reader stopped; none for 19, and for a text that is read.
+fn shown(text: &str) -> Option<Stopped> {
+    let error = layers::Tape::from_text(text).err()?;
+    error.at().map(|at| Stopped { number: error.refusal().number(), at })
+}
+
+/// The wrapper finds the place by the call alone: it is the slow reader's.
+#[test]
+fn errors_show_where_the_reader_stopped() {
+    let cases = cases(3_000);
+    let mut r = Random::seeded(&format!("errors_show_where_the_reader_stopped: {cases} cases"), 0x5EED_0059);
+    let mut numbers = [0u64; 20];
+    for case in 0..cases {
+        let mut text = Reading::random(&mut r).text;
+        if case % 4 == 0 {
+            let at = r.index(text.len() + 1);
+            damage(&mut r, &mut text, at);
+        }
+        let Ok(text) = String::from_utf8(text) else { continue };
+        let stopped = text::tree(text.as_bytes()).err();
+        assert_eq!(shown(&text), stopped, "{text:?}");
+        numbers[stopped.map_or(0, |stopped| stopped.number) as usize] += 1;
+    }
+    assert!(cases < 1_000 || [0, 17, 18].iter().all(|&n| numbers[n] > 100), "{numbers:?}");
+    for text in
+        ["", " ", "x", "x\u{e9}", "\u{1F980}+x", "min(x,\u{e9})", "ma", "r", "roo", "mi n(x,y)", "1.", "x\n", "(("]
+    {
+        assert_eq!(shown(text), text::tree(text.as_bytes()).err(), "{text:?}");
+    }
+}
+
+/// Every beginning of an allowed text, and the place found in a long one.
+#[test]
+fn errors_show_the_end_of_what_is_cut_off() {
+    let whole = "max(min(sqr(x - 12.75), root(y*-2) / 3), abs(z)) * (1 - x)";
+    for end in 0..=whole.len() {
+        assert_eq!(shown(&whole[..end]), text::tree(&whole.as_bytes()[..end]).err(), "{:?}", &whole[..end]);
+    }
+    let long = vec!["x"; 200_000].join(" + ");
+    let stops = |text: String| shown(&text).map(|stopped| (stopped.number, stopped.at));
+    assert_eq!(stops(format!("{long} + ?")), Some((17, long.len() + 3)));
+    assert_eq!(stops(format!("{long} + {}", "(".repeat(50))), Some((18, long.len() + 3 + 32)));
+    let large: TextError = layers::Tape::from_text(&long).unwrap_err();
+    assert_eq!((large.refusal().number(), large.at()), (19, None));
 }
 
 /// Joins are as deep as a text is long, brackets are not.
@@ -318,8 +360,26 @@ fn random_bytes() {
     for case in 0..20_000 {
         let len = r.index(12);
         let text = if case % 2 == 0 { r.bytes(len) } else { (0..len).map(|_| r.pick(BYTES)).collect() };
-        Reading::new(text).compare_on(&lent, tried, text::read_text).unwrap_or_else(|e| panic!("{e}"));
+        Reading::new(text).compare_on(&lent, None).unwrap_or_else(|e| panic!("{e}"));
     }
+}
+
+/// The program that writes a text's tape: the tape's bytes, or the refusal.
+#[test]
+fn the_program_reads_texts() {
+    let mut r = Random::seeded("the_program_reads_texts", 0x5EED_005A);
+    let mut texts: Vec<Vec<u8>> = (0..200).map(|_| Reading::random(&mut r).text).collect();
+    texts.extend([vec![], b"x".to_vec(), vec![b' '; 61_480], [vec![b' '; 61_479], b"y".to_vec()].concat()]);
+    for text in texts {
+        let expected = match text::tape(&text, None) {
+            Ok(tape) => tape.to_bytes(),
+            Err(stopped) => format!("refused {} at 0\n", stopped.number).into_bytes(),
+        };
+        let ran = program::read_text(&text);
+        assert!(ran.first == expected && ran.second.is_empty(), "{:?}", String::from_utf8_lossy(&text));
+    }
+    assert_eq!(program::read_text(&[b' '; 61_481]).first, b"text above 61,480 bytes\n");
+    assert_eq!(program::read_text(&[b'x'; 100_000]).first, b"text above 61,480 bytes\n");
 }
 
 #[test]
@@ -327,8 +387,7 @@ fn planted_faults_are_caught() {
     for &fault in Fault::ALL {
         let mut r = Random::seeded(&format!("{fault:?}"), 0x5EED_0056);
         let mut noise = Random::new(0x5EED_0057);
-        let differs =
-            |reading: Reading| reading.compare(&mut noise, tried, |text, out| text::faulty(fault, text, out)).is_err();
+        let differs = |reading: Reading| reading.compare_on(&noise.bytes(OUTPUT), Some(fault)).is_err();
         assert!((0..4_000).map(|_| Reading::random(&mut r)).any(differs), "{fault:?} is not caught");
     }
 }

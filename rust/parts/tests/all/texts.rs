@@ -1,7 +1,7 @@
-//! Formulas as text: what a part's text means, by the slow reader.
+//! Formulas as text: what a part's text means, by the slow reader, and its tape by the core's.
 
 use crate::common::{Random, value_at};
-use layers::{ONE, Opcode};
+use layers::{ONE, Opcode, Tape};
 use parts::examples::designs;
 use parts::formula::{Formula, Id};
 use parts::text::{number, text};
@@ -21,6 +21,9 @@ fn every_part_has_a_text() {
         let tree = tree(text.as_bytes()).unwrap_or_else(|e| panic!("{}: {e:?}", design.name));
         let tape = tape(text.as_bytes(), None);
         assert_eq!(tape.as_ref().err().map(|e| e.number), (!SMALL.contains(&design.name)).then_some(19));
+        let read = Tape::from_text(&text).map_err(|e| e.refusal().number());
+        let expected = tape.as_ref().map(|tape| tape.to_bytes()).map_err(|e| e.number);
+        assert!(read.map(|tape| tape.as_bytes().to_vec()) == expected, "{}", design.name);
         let mut formula = Formula::default();
         let result = design.shape.formula(&mut formula);
         for sample in [0; 300].map(|_| random.sample(40 << 16)) {

@@ -1,18 +1,19 @@
 -- How the calls that read parts compose: each from what the calls that it makes promise.
-use mathlib.Core.Path.{_≡_, refl, sym, subst, ap, _∙_}
-use mathlib.Core.List.{List, [], _∷_}
+use mathlib.Core.Path.{_≡_, sym, subst, ap, _∙_}
+use mathlib.Core.List.{List}
 use mathlib.Core.Logic.{_≢_}
 use lib.IntN.{ℤ, pos}
-use Prim.Native.Nat.{ℕ, zero, suc, _+_, _*_, _≤_, _<_}
+use Prim.Native.Nat.{ℕ, suc, _+_, _-_, _*_, _≤_, _<_}
 use native.Mathlib.Numerals.{add-one}
 use native.Mathlib.Omega.{arith}
-use lib.ListN.{length, getD}
-use Rattle.rules.specs.Trees.{Tree, Unary, Binary, unary, binary}
-use Rattle.rules.specs.FormulaTapes.{unaryOpcode, binaryOpcode, step}
-use Rattle.rules.specs.FormulaDepths.{Sheet, clausesAt, emit, emitAll}
-use Rattle.rules.proofs.FormulaSheets.{emit-unary, emit-binary, emitted-length}
-use Rattle.rules.specs.FormulaReader.{Answer}
+use lib.ListN.{length}
+use Rattle.formula_rules.specs.Trees.{Tree, Unary, Binary, unary, binary}
+use Rattle.formula_rules.specs.FormulaTapes.{unaryOpcode, binaryOpcode, step}
+use Rattle.formula_rules.specs.FormulaDepths.{Sheet, clausesAt, emit, emitAll}
+use Rattle.formula_rules.proofs.FormulaSheets.{emit-unary, emit-binary, emitted-length}
+use Rattle.formula_rules.specs.FormulaReader.{Answer}
 use Rattle.formula.specs.declared.sheet.Cursor.{Cursor}
+use Rattle.formula.specs.declared.parts.Stop.{Stop}
 use Rattle.formula.specs.declared.parts.Read.{Read}
 use Rattle.formula.specs.declared.parts.Read.the-variants as read
 use Rattle.formula.specs.Cursors.{sheetOn, Emitted}
@@ -109,16 +110,25 @@ got-binary {Q = Q} {c = c} {slot = slot} {zs = zs} {zs₁ = zs₁} {c₁ = c₁}
         (λ v. emit (step (binaryOpcode b) slot slot (suc slot) (pos 0)) (emitAll (clausesAt (suc slot) (h .tree)) v))
         (g .sheet)
 
--- Room for the calls that follow.
+-- What a call's answer says in the arm that it has.
+pub in-part : (R : ℕ → Tree → Type 0) (S : Answer → Type 0) {text : List ℕ} {c : Cursor} {slot : ℕ} {zs zs′ : List ℤ}
+    {r : Read} {c′ : Cursor} → r ≡ read.Part c′ → Reads R S text c slot zs zs′ r → Got R text c slot zs zs′ c′
+in-part R S {text} {c} {slot} {zs} {zs′} e g = subst (Reads R S text c slot zs zs′) e g
+
+pub in-stop : (R : ℕ → Tree → Type 0) (S : Answer → Type 0) (text : List ℕ) (c : Cursor) (slot : ℕ) (zs zs′ : List ℤ)
+    {r : Read} {s : Stop} → r ≡ read.Stopped s → Reads R S text c slot zs zs′ r → S (answerOf s)
+in-stop R S text c slot zs zs′ e g = subst (Reads R S text c slot zs zs′) e g
+
+-- Room for the calls that follow: from a later place, for the right operand of a join, inside one more bracket.
 pub room-from : {text : List ℕ} {zs : List ℤ} {c : Cursor} {slot depth : ℕ} (n : ℕ) → Room text zs c slot depth
     → c .at ≤ n → n ≤ length text → Room text zs (movedTo c n) slot depth
 room-from n r h w =
     record { within = w; paid = omega (arith, r .paid); waits = r .waits; nest = r .nest; list = r .list }
 
-pub room-right : {R : ℕ → Tree → Type 0} {text : List ℕ} {zs zs′ : List ℤ} {c c′ : Cursor} {slot depth : ℕ} (n : ℕ)
-    → Room text zs c slot depth → Got R text c slot zs zs′ c′ → c′ .at ≤ n → n ≤ length text
+pub room-right : {R : ℕ → Tree → Type 0} {text : List ℕ} {zs zs′ : List ℤ} {c c′ : Cursor} {slot depth : ℕ} (k n : ℕ)
+    → Room text zs c slot depth → c .at ≤ k → Got R text (movedTo c k) slot zs zs′ c′ → c′ .at ≤ n → n ≤ length text
     → Room text zs′ (movedTo c′ n) (slot + 1) depth
-room-right n r g h w =
+room-right k n r b g h w =
     record {
       within = w;
       paid = omega (arith, r .paid, g .paid);
@@ -126,3 +136,50 @@ room-right n r g h w =
       nest = r .nest;
       list = got-length g ∙ r .list;
     }
+
+pub room-inside : {text : List ℕ} {zs : List ℤ} {c : Cursor} {slot depth : ℕ} (n : ℕ) → Room text zs c slot depth
+    → c .at ≤ n → n ≤ length text → depth ≢ 32 → Room text zs (movedTo c n) slot (depth + 1)
+room-inside n r h w q =
+    record {
+      within = w;
+      paid = omega (arith, r .paid);
+      waits = r .waits;
+      nest = omega (arith, r .nest, q);
+      list = r .list;
+    }
+
+-- Room for a clause: of an item, and after a part.
+pub can-leaf : {text : List ℕ} {zs : List ℤ} {c : Cursor} {slot depth : ℕ} (n code : ℕ) → Room text zs c slot depth
+    → code ≤ 14 → length text < 9223372036854775808 → CanWrite zs (movedTo c n) code slot
+can-leaf n code r h l =
+    record { room = r .list; opcode = h; slot = r .waits; few = omega (arith, r .paid, r .within) }
+
+pub can-write : {R : ℕ → Tree → Type 0} {text : List ℕ} {zs zs′ : List ℤ} {c c′ : Cursor} {slot depth : ℕ} (k code : ℕ)
+    → Room text zs c slot depth → c .at ≤ k → Got R text (movedTo c k) slot zs zs′ c′ → code ≤ 14
+    → length text < 9223372036854775808 → CanWrite zs′ c′ code slot
+can-write k code r b g h l =
+    record {
+      room = got-length g ∙ r .list;
+      opcode = h;
+      slot = omega (arith, r .waits, g .more);
+      few = omega (arith, r .paid, g .paid, g .within);
+    }
+
+-- The measures of the calls: six to a byte that is left. A call at a later place falls, whichever it is; one at the
+-- same place by its rank.
+pub falls-later : (l n m t j k : ℕ) → 6 * (l - n) + k ≡ t → n < m → m ≤ l → j ≤ 5 → 6 * (l - m) + j < t
+falls-later l n m t j k e h w q = omega arith
+
+pub falls-here : (l n m t j k : ℕ) → 6 * (l - n) + k ≡ t → n ≤ m → j < k → 6 * (l - m) + j < t
+falls-here l n m t j k e h q = omega arith
+
+-- A part has a byte at least.
+pub got-on : {R : ℕ → Tree → Type 0} {text : List ℕ} {c : Cursor} {slot : ℕ} {zs zs′ : List ℤ} {c′ : Cursor}
+    → Got R text c slot zs zs′ c′ → c .at < c′ .at
+got-on g = omega (arith, g .more, g .paid)
+
+-- The turns of a loop of joins: whatever was read up to where the loop began, is read up to here, as a part of the same
+-- kind.
+pub record Onward (R : ℕ → ℕ → Tree → Type 0) (text : List ℕ) (slot : ℕ) (zs₀ : List ℤ) (l₀ : Cursor) (zs : List ℤ)
+    (l : Cursor) : Type 0 where
+  pub got : (c : Cursor) (ys : List ℤ) → Got (R (c .at)) text c slot ys zs₀ l₀ → Got (R (c .at)) text c slot ys zs l

@@ -9,10 +9,9 @@ use crate::sheet::Cursor;
 use crate::sheet::emit;
 use crate::text::peek;
 use crate::text::skip;
-ghost use mathlib.Core.Path.{_≡_};
 ghost use Prim.Native.Nat.{_+_, _≤_, _<_};
-ghost use Rattle.rules.specs.FormulaCalls.{SumRead, ProductRead, SignedRead, ItemRead};
-ghost use Rattle.rules.specs.FormulaCalls.{SumStops, ProductStops, SignedStops, ItemStops};
+ghost use Rattle.formula_rules.specs.FormulaCalls.{SumRead, ProductRead, SignedRead, ItemRead};
+ghost use Rattle.formula_rules.specs.FormulaCalls.{SumStops, ProductStops, SignedStops, ItemStops};
 ghost use Rattle.formula.specs.Cursors.{Emitted};
 ghost use Rattle.formula.specs.Heads.{NoSpace};
 ghost use Rattle.formula.specs.Parts.{leafClause, unaryClause, binaryClause, CanWrite, Room, movedTo, Reads};
@@ -93,7 +92,7 @@ fn leaf(list: &mut [i32], c: Cursor, opcode: u32, slot: usize, constant: u32) ->
     )
 }
 
-fn sum(text: &[u8], list: &mut [i32], c: Cursor, slot: usize, depth: u32) -> Read
+pub fn sum(text: &[u8], list: &mut [i32], c: Cursor, slot: usize, depth: u32) -> Read
     requires { ⌜ Room (now text) (now list) c slot depth ⌝ }
     ensures { λ r. ⌜ Reads (SumRead (now (text .entry)) (c .at) depth) (SumStops (now (text .entry)) (c .at) depth)
         (now (text .entry)) c slot (now (list .entry)) (now (list .exit)) r ⌝ }

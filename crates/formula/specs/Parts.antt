@@ -5,12 +5,12 @@ use mathlib.Core.Logic.{_≢_}
 use lib.IntN.{ℤ}
 use Prim.Native.Nat.{ℕ, suc, _+_, _≤_, _<_}
 use lib.ListN.{length, getD}
-use Rattle.rules.specs.Trees.{Tree}
-use Rattle.rules.specs.Formulas.{Two, twoTree}
-use Rattle.rules.specs.FormulaReader.{Opener, firstOf, Answer, breaks, deep}
-use Rattle.rules.specs.FormulaCalls.{SumRead, SumStops, ItemRead, ItemStops, OpenRead}
-use Rattle.rules.specs.FormulaTapes.{binaryOpcode}
-use Rattle.rules.specs.FormulaDepths.{clausesAt, emitAll}
+use Rattle.formula_rules.specs.Trees.{Tree}
+use Rattle.formula_rules.specs.Formulas.{Two, twoTree}
+use Rattle.formula_rules.specs.FormulaReader.{Opener, firstOf, Answer, breaks, deep}
+use Rattle.formula_rules.specs.FormulaCalls.{SumRead, SumStops, ItemRead, ItemStops, OpenRead}
+use Rattle.formula_rules.specs.FormulaTapes.{binaryOpcode}
+use Rattle.formula_rules.specs.FormulaDepths.{clausesAt, emitAll}
 use Rattle.formula.specs.declared.sheet.Cursor.{Cursor}
 use Rattle.formula.specs.declared.sheet.Clause.{Clause}
 use Rattle.formula.specs.declared.parts.Stop.{Stop}

@@ -1,5 +1,5 @@
 -- Sums, products and brackets, from what was read of them.
-use mathlib.Core.Path.{_≡_, refl, sym, subst, ap, _∙_}
+use mathlib.Core.Path.{_≡_, refl, sym, subst, _∙_}
 use mathlib.Core.Bool.{Bool, true, false}
 use mathlib.Core.List.{List}
 use mathlib.Core.Logic.{_≢_}
@@ -8,29 +8,30 @@ use Prim.Native.Nat.{ℕ, suc, _+_, _≤_, _<_}
 use native.Mathlib.Numerals.{add-one}
 use native.Mathlib.Omega.{arith}
 use lib.Dec.{ltb}
-use lib.ListN.{length, getD}
+use lib.ListN.{length}
 use borrow.Author.Tests.{ltb-true, ltb-false}
-use Rattle.rules.specs.Trees.{Tree, negate, unary, binary}
-use Rattle.rules.specs.Formulas.{SumJoin, plus, less, ProductJoin, times, over, sumByte, productByte, sumTree}
-use Rattle.rules.specs.Formulas.{productTree, One, absName, sqrName, rootName, Two, oneTree, twoTree}
-use Rattle.rules.specs.FormulaReader.{Opener, opened, called, firstOf, secondOf, Answer, breaks}
-use Rattle.rules.specs.FormulaCalls.{NoTimes, NoPlus, Blank, SumUpTo, SumRead, ProductUpTo, ProductRead, SignedRead}
-use Rattle.rules.specs.FormulaCalls.{ItemRead, OpenRead, SumStops, ProductStops, SignedStops, ItemStops}
-use Rattle.rules.specs.FormulaTapes.{unaryOpcode, binaryOpcode}
-use Rattle.rules.proofs.FormulaCalls.{plain-read, minus-read, plain-stops, minus-stops, blank-signed}
-use Rattle.rules.proofs.FormulaCalls.{blank-signed-stops, product-start, product-start-stops, product-blank}
-use Rattle.rules.proofs.FormulaCalls.{product-step, product-step-stops, sum-start, sum-start-stops, sum-step}
-use Rattle.rules.proofs.FormulaCalls.{sum-step-stops}
-use Rattle.rules.proofs.FormulaItems.{bracket-read, call-read, comma-read, pair-read, inner-stops, closeByte}
-use Rattle.rules.proofs.FormulaItems.{not-closed, closed-by-none}
+use Rattle.formula_rules.specs.Trees.{negate, unary, binary}
+use Rattle.formula_rules.specs.Formulas.{plus, less, times, over, sumTree}
+use Rattle.formula_rules.specs.Formulas.{productTree, absName, sqrName, rootName, Two, minName, maxName, oneTree}
+use Rattle.formula_rules.specs.Formulas.{twoTree}
+use Rattle.formula_rules.specs.FormulaReader.{Opener, firstOf, secondOf, Answer, breaks}
+use Rattle.formula_rules.specs.FormulaCalls.{NoTimes, NoPlus, Blank, SumUpTo, SumRead, ProductUpTo, ProductRead}
+use Rattle.formula_rules.specs.FormulaCalls.{SignedRead}
+use Rattle.formula_rules.specs.FormulaCalls.{ItemRead, OpenRead, SumStops, ProductStops, SignedStops, ItemStops}
+use Rattle.formula_rules.specs.FormulaTapes.{binaryOpcode}
+use Rattle.formula_rules.proofs.FormulaCalls.{plain-read, minus-read, plain-stops, minus-stops, blank-signed}
+use Rattle.formula_rules.proofs.FormulaCalls.{blank-signed-stops, product-start, product-blank}
+use Rattle.formula_rules.proofs.FormulaCalls.{product-step, product-step-stops, sum-start, sum-step}
+use Rattle.formula_rules.proofs.FormulaCalls.{sum-step-stops}
+use Rattle.formula_rules.proofs.FormulaItems.{bracket-read, call-read, comma-read, pair-read, inner-stops, closeByte}
+use Rattle.formula_rules.proofs.FormulaItems.{not-closed, closed-by-none}
 use Rattle.formula.specs.declared.sheet.Cursor.{Cursor}
 use Rattle.formula.specs.declared.parts.Stop.{Stop}
-use Rattle.formula.specs.declared.parts.Stop.the-variants as stop
 use Rattle.formula.specs.declared.parts.Read.{Read}
 use Rattle.formula.specs.declared.parts.Read.the-variants as read
 use Rattle.formula.specs.Bytes.{byteAt}
 use Rattle.formula.specs.Cursors.{Emitted}
-use Rattle.formula.specs.Heads.{Follows, nothing, one, OneAt, TwoAt, LeafAt, BreaksIn}
+use Rattle.formula.specs.Heads.{Follows, nothing, one, OneAt, TwoAt}
 use Rattle.formula.specs.Joins.{PlusAt, TimesAt, none, some}
 use Rattle.formula.specs.Parts.{unaryClause, binaryClause, movedTo, Got, Reads, EndedBy, NotEnded, inside, after}
 use Rattle.formula.specs.Parts.{answerOf, OneSays, TwoSays}
@@ -270,15 +271,70 @@ module _ (text : List ℕ) (depth slot : ℕ) (c : Cursor) (zs zs₁ : List ℤ)
               (second n d f q r) (subst (λ m. NotEnded text (p .at) m 41 (answerOf s)) (sym q) h);
         }
 
+    -- Counted from the bracket on, not from the byte after it.
+    abbrev first : Got (EndedBy text (c .at) depth 44) text c slot zs zs₁ p
+    first =
+        record {
+          tree = g .tree;
+          read = g .read;
+          within = g .within;
+          sheet = g .sheet;
+          more = g .more;
+          paid = omega (arith, g .paid);
+        }
+
     pub two-joined : (zs₂ zs₃ : List ℤ) (i i′ : Cursor)
         → Got (EndedBy text (p .at) depth 41) text (movedTo p (p .at + 1)) (slot + 1) zs₁ zs₂ i
         → Emitted zs₂ i (binaryClause code slot) zs₃ i′ → TwoSays text c slot depth code zs zs₃ (read.Part i′)
     two-joined zs₂ zs₃ i i′ h x =
         record {
           says = λ n d f q e r. let b = h .read in
-              got-binary (p .at + 1) (twoTree f) (got-as (c .at + 1) (omega arith) (λ m t y. y) g) (omega arith) h
+              got-binary (p .at + 1) (twoTree f) first (omega arith) h
               (subst (λ m. ItemRead text n d m (binary (twoTree f) (g .tree) (h .tree))) (sym (b .next))
               (pair-read text n d (p .at) (b .end) f (g .tree) (h .tree) (second n d f q r)
               (subst (λ m. SumRead text (p .at) m (b .end) (h .tree)) (sym q) (b .sum)) (b .within) (b .byte)))
               (subst (λ k. Emitted zs₂ i (binaryClause k slot) zs₃ i′) (sym e) x);
         }
+
+-- The opcodes of joins and of what follows a bracket are the table's.
+pub plus-small : {text : List ℕ} {n : ℕ} (o : ℕ) → PlusAt text n o → o ≤ 14
+plus-small o (none f) = omega arith
+plus-small o (some plus h b) = omega arith
+plus-small o (some less h b) = omega arith
+
+pub times-small : {text : List ℕ} {n : ℕ} (o : ℕ) → TimesAt text n o → o ≤ 14
+times-small o (none f h) = omega arith
+times-small o (some times h b) = omega arith
+times-small o (some over h b) = omega arith
+
+pub follows-small : (o : Opener) (code : ℕ) → Follows o code → code ≤ 8
+follows-small o code nothing = omega arith
+follows-small o code (one absName) = omega arith
+follows-small o code (one sqrName) = omega arith
+follows-small o code (one rootName) = omega arith
+
+pub two-small : (f : Two) (code : ℕ) → binaryOpcode (twoTree f) ≡ code → code ≤ 14
+two-small minName code e = omega (arith, e)
+two-small maxName code e = omega (arith, e)
+
+-- An item with a bracket, from what the bracket holds: it is counted from where the item begins.
+module _ (text : List ℕ) (d slot : ℕ) (c : Cursor) (zs zs₁ : List ℤ) (r : Read) (j code : ℕ) (shallow : d < 32) where
+  from-bracket : Reads (ItemRead text (c .at) d) (ItemStops text (c .at) d) text (movedTo c (j + 1)) slot zs zs₁ r
+      → c .at ≤ j → Reads (ItemRead text (c .at) d) (ItemStops text (c .at) d) text c slot zs zs₁ r
+  from-bracket g h = reads-as text c slot zs zs₁ r (j + 1) (omega arith) (λ m t q. q) (λ a q. q) g
+
+  pub one-item : OneAt text (c .at) j code → OneSays text (movedTo c (j + 1)) slot (d + 1) code zs zs₁ r
+      → Reads (ItemRead text (c .at) d) (ItemStops text (c .at) d) text c slot zs zs₁ r
+  one-item o s =
+      from-bracket
+      (s .says (c .at) d (o .opener) (sym (add-one d)) (o .opcode)
+      (from-suc (λ k. OpenRead text (c .at) d k (o .opener)) j (o .opens .opens d shallow)))
+      (o .opens .on)
+
+  pub two-item : TwoAt text (c .at) j code → TwoSays text (movedTo c (j + 1)) slot (d + 1) code zs zs₁ r
+      → Reads (ItemRead text (c .at) d) (ItemStops text (c .at) d) text c slot zs zs₁ r
+  two-item o s =
+      from-bracket
+      (s .says (c .at) d (o .name) (sym (add-one d)) (o .opcode)
+      (from-suc (λ k. OpenRead text (c .at) d k (firstOf (o .name))) j (o .opens .opens d shallow)))
+      (o .opens .on)

@@ -1,0 +1,2 @@
+-- Why the answer is what is promised.
+pub mod Answering
