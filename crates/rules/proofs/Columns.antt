@@ -1,6 +1,7 @@
 -- The full drawing's heights are the least that are above every sample with material.
 use mathlib.Core.Path.{_≡_, refl, ap, sym, _∙_}
 use mathlib.Core.Bool.{Bool, true, false, false≢true}
+use mathlib.Core.List.{List, [], _∷_, _++_}
 use Prim.Native.Nat.{ℕ, zero, suc, _+_, _*_, _/_, _%_, _≤_, _<_}
 use native.Mathlib.Omega.{arith}
 use native.Mathlib.Nat.{mul-comm, div-add-mod', mod-lt, div-lt-iff-lt-mul}
@@ -149,3 +150,36 @@ drawn-raised t g f =
         rw (pixel p (s .x) (s .y) (s .x-in) (s .y-in) (s .place))
         (top-least 0 (layers g) t g (s .x) (s .y) b (λ z _ l m.
         k z (record { x = s .x; y = s .y; place = s .place; inside = omega arith; in-grid = omega arith; has = m })))
+
+-- No height is above the number of layers.
+column-most : (k : ℕ) (t : Tape) (g : Grid) (x y : ℕ) → columnFrom k t g x y ≤ k
+unfolding columnFrom
+column-most zero t g x y = omega arith
+column-most (suc k) t g x y = by (material t (sampleAt g x y k)) (column-most k t g x y)
+  where
+    by : (m : Bool) {n : ℕ} → n ≤ k → elim m [ true ↦ suc k | false ↦ n ] ≤ suc k
+    by true h = omega arith
+    by false h = omega arith
+
+rest-most : (xs ys : List ℕ) (m : ℕ) → ((p : ℕ) → getD xs p 0 ≤ m) → ((p : ℕ) → getD ys p 0 ≤ m) → (p : ℕ)
+    → getD (xs ++ ys) p 0 ≤ m
+rest-most [] ys m h k p = k p
+rest-most (x ∷ xs) ys m h k zero = h 0
+rest-most (x ∷ xs) ys m h k (suc p) = rest-most xs ys m (λ q. h (suc q)) k p
+
+row-most : (n i j : ℕ) (t : Tape) (g : Grid) (p : ℕ) → getD (rowFrom n i j t g) p 0 ≤ layers g
+unfolding rowFrom
+row-most zero i j t g p = omega arith
+row-most (suc n) i j t g zero = column-most (layers g) t g i j
+row-most (suc n) i j t g (suc p) = row-most n (suc i) j t g p
+
+rows-most : (n j : ℕ) (t : Tape) (g : Grid) (p : ℕ) → getD (rowsFrom n j t g) p 0 ≤ layers g
+unfolding rowsFrom
+rows-most zero j t g p = omega arith
+rows-most (suc n) j t g p =
+    rest-most (rowFrom (g .width) 0 j t g) (rowsFrom n (suc j) t g) (layers g) (row-most (g .width) 0 j t g)
+    (rows-most n (suc j) t g) p
+
+pub drawn-most : (t : Tape) (g : Grid) (p : ℕ) → getD (drawn t g) p 0 ≤ layers g
+unfolding drawn
+drawn-most t g p = rows-most (g .height) 0 t g p

@@ -13,13 +13,9 @@ use lib.Seq.{drop-cons, drop-drop, getD-set-same, getD-set-other}
 use borrow.Author.Tests.{eqb-true, eqb-false}
 use Rattle.rules.specs.Tapes.{Tape}
 use Rattle.rules.specs.Drawings.{Grid, sampleAt}
-use Rattle.rules.specs.Slopes.{Slopes, slopesAt, listed, pixelSlopes, rowSlopes, rowsSlopes, slopesOf}
+use Rattle.rules.specs.Slopes.{Slopes, slopesAt, listed, threeAt, pixelSlopes, rowSlopes, rowsSlopes, slopesOf}
 use Rattle.rules.proofs.Algebra.{of-replicate}
 use Rattle.rules.proofs.Heights.{same-pixel}
-
--- The three numbers of the pixel p.
-abbrev pub threeAt : List ℤ → ℕ → List ℤ
-threeAt b p = getD b (3 * p) (pos 0) ∷ (getD b (3 * p + 1) (pos 0) ∷ (getD b (3 * p + 2) (pos 0) ∷ []))
 
 -- The list b has each pixel's slopes at the height that h has for it.
 pub record ShowSlopes (t : Tape) (g : Grid) (h : List ℕ) (b : List ℤ) : Type 0 where
@@ -135,14 +131,14 @@ put-other b p n m d e f =
     ∙ getD-set-other (putOne b p n) (3 * p + 1) m (n .y) (pos 0) e
     ∙ getD-set-other b (3 * p) m (n .x) (pos 0) d
 
-three-other : (b : List ℤ) (p q : ℕ) (n : Slopes) → (p ≡ q → ⊥) → threeAt (putThree b p n) q ≡ threeAt b q
+pub three-other : (b : List ℤ) (p q : ℕ) (n : Slopes) → (p ≡ q → ⊥) → threeAt (putThree b p n) q ≡ threeAt b q
 three-other b p q n d =
     three
     (put-other b p n (3 * q) (λ e. d (omega arith)) (λ e. omega arith) (λ e. omega arith))
     (put-other b p n (3 * q + 1) (λ e. omega arith) (λ e. d (omega arith)) (λ e. omega arith))
     (put-other b p n (3 * q + 2) (λ e. omega arith) (λ e. omega arith) (λ e. d (omega arith)))
 
-three-same : (b : List ℤ) (p : ℕ) (n : Slopes) → 3 * p + 2 < length b → threeAt (putThree b p n) p ≡ listed n
+pub three-same : (b : List ℤ) (p : ℕ) (n : Slopes) → 3 * p + 2 < length b → threeAt (putThree b p n) p ≡ listed n
 three-same b p n h =
     three
     (getD-set-other two (3 * p + 2) (3 * p) (n .z) (pos 0) (λ e. omega arith)

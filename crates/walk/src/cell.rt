@@ -47,7 +47,7 @@ pub fn cell_at(grid: Grid, layers: u32, x: u32, y: u32, z: u32, side: u32) -> Ce
 }
 
 // The samples of an axis from the index `from` to the one before `end`.
-fn span(origin: i32, step: i32, from: u32, end: u32) -> Span
+pub fn span(origin: i32, step: i32, from: u32, end: u32) -> Span
     requires { ⌜ SpanIn origin step from end ⌝ }
     ensures { λ r. ⌜ rangeIn r ≡ spanOf origin step from end ⌝ }
 {
