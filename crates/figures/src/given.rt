@@ -92,6 +92,31 @@ pub fn room() -> [u8; 10248]
     [255; 10248]
 }
 
+// 1,100 clauses, each of which puts the constant 5 in slot 100, before the paper's three; and room for them as a tape.
+pub fn lettered_list() -> [i32; 5515]
+    ensures { λ r. ⌜ 5515 ≡ length r ⌝ }
+{
+    let mut list = [0i32; 5515];
+    let mut i = 0;
+    while i < 1100 {
+        list[5 * i + 1] = 100;
+        list[5 * i + 4] = 5;
+        i += 1;
+    }
+    list[5500] = 1;
+    list[5506] = 1;
+    list[5509] = 131072;
+    list[5510] = 10;
+    list[5513] = 1;
+    list
+}
+
+pub fn lettered_room() -> [u8; 11038]
+    ensures { λ r. ⌜ 11038 ≡ length r ⌝ }
+{
+    [255; 11038]
+}
+
 // 1,025 clauses.
 pub fn long_list() -> [i32; 5125]
     ensures { λ r. ⌜ 5125 ≡ length r ⌝ }

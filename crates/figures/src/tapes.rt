@@ -1,6 +1,8 @@
-// Packing and unpacking.
+// Packing and unpacking, and a tape of edition 02 drawn.
+use crate::given;
 use crate::say;
 use layers::pack_tape;
+use layers::tile_flat;
 use layers::unpack_tape;
 
 // The example: x in slot 0, the constant 131,072 in 1, subtract of 0, 1 into 0; packed, and unpacked again.
@@ -24,4 +26,17 @@ pub fn least_constant() {
     let mut bytes = [255u8; 28];
     say::answer(b"the least constant", pack_tape(1, &list, &mut bytes));
     say::bytes(&bytes);
+}
+
+// 1,103 clauses on 101 slots: of edition 02, which the head tells. Where x is below 2, as with the last three alone.
+pub fn edition_02() {
+    let list = given::lettered_list();
+    let mut tape = given::lettered_room();
+    say::answer(b"1,103 clauses packed", pack_tape(101, &list, &mut tape));
+    say::head(&tape, b"TP\x02\x65\x4f\x04\x00\x00");
+    let mut work = given::work();
+    let mut picture = [255u8; 2];
+    let drawn = tile_flat(&tape, given::grid(3, 2, 0), &mut picture, &mut work);
+    say::answer(b"1,103 clauses drawn", drawn);
+    say::bytes(&picture);
 }
