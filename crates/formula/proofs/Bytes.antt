@@ -8,7 +8,7 @@ use native.Mathlib.Omega.{arith}
 use lib.Dec.{ltb}
 use lib.ListN.{length, getD}
 use borrow.Author.Tests.{lt-ltb, le-ltb, ltb-true, ltb-false}
-use Rattle.rules.specs.FormulaCalls.{Blank}
+use Rattle.formula_rules.specs.FormulaCalls.{Blank}
 use Rattle.formula.specs.Bytes.{byteAt}
 
 pub byte-in : (text : List ℕ) (n : ℕ) → n < length text → byteAt text n ≡ getD text n 0

@@ -5,10 +5,10 @@ use mathlib.Core.Logic.{_≢_}
 use Prim.Native.Nat.{ℕ, _<_}
 use native.Mathlib.Omega.{arith}
 use lib.ListN.{length, getD}
-use Rattle.rules.specs.Formulas.{SumJoin, plus, less, ProductJoin, times, over, sumByte, productByte, sumTree}
-use Rattle.rules.specs.Formulas.{productTree}
-use Rattle.rules.specs.FormulaCalls.{NoPlus}
-use Rattle.rules.specs.FormulaTapes.{binaryOpcode}
+use Rattle.formula_rules.specs.Formulas.{SumJoin, plus, less, ProductJoin, times, over, sumByte, productByte, sumTree}
+use Rattle.formula_rules.specs.Formulas.{productTree}
+use Rattle.formula_rules.specs.FormulaCalls.{NoPlus}
+use Rattle.formula_rules.specs.FormulaTapes.{binaryOpcode}
 use Rattle.formula.specs.Bytes.{byteAt}
 use Rattle.formula.specs.Joins.{PlusAt, TimesAt, none, some}
 use Rattle.formula.proofs.Bytes.{here, other}

@@ -10,18 +10,18 @@ use native.Mathlib.Omega.{arith}
 use lib.Dec.{eqb, ltb}
 use lib.ListN.{length, getD}
 use borrow.Author.Tests.{ltb-true, ltb-false, ne-eqb}
-use Rattle.rules.specs.Trees.{Axis, axisX, axisY, axisZ, axis}
-use Rattle.rules.specs.Formulas.{axisByte}
-use Rattle.rules.specs.Formulas.{absName, sqrName, rootName, minName, maxName, One, Two, oneTree, twoTree}
-use Rattle.rules.specs.FormulaReader.{Level, Frame, called, firstOf, opened, Spelling, a-, ab-, s-, sq-, r-, ro-, roo-}
-use Rattle.rules.specs.FormulaReader.{m-, mi-, ma-, Function, ofOne, ofTwo, Mode, want, spelling, named, state, no, go}
-use Rattle.rules.specs.FormulaReader.{choose, moveIn, endIn, breaks, openerOf}
-use Rattle.rules.specs.FormulaCalls.{Blank, ItemStops, ModeRead}
-use Rattle.rules.specs.FormulaTapes.{axisOpcode}
-use Rattle.rules.specs.FormulaDepths.{clausesAt}
-use Rattle.rules.proofs.FormulaSteps.{NoItem, no-item, no-bracket}
-use Rattle.rules.proofs.FormulaItems.{mode-start, mode-step, mode-stops, mode-ends, mode-blank, item-stops, item-ends}
-use Rattle.rules.proofs.FormulaItems.{axis-read, bracket-opens, bracket-deep, name-opens, name-deep}
+use Rattle.formula_rules.specs.Trees.{Axis, axisX, axisY, axisZ, axis}
+use Rattle.formula_rules.specs.Formulas.{axisByte}
+use Rattle.formula_rules.specs.Formulas.{absName, sqrName, rootName, minName, maxName, One, Two, oneTree, twoTree}
+use Rattle.formula_rules.specs.FormulaReader.{Level, Frame, called, firstOf, opened, Spelling, a-, ab-, s-, sq-, r-, ro-, roo-}
+use Rattle.formula_rules.specs.FormulaReader.{m-, mi-, ma-, Function, ofOne, ofTwo, Mode, want, spelling, named, state, no, go}
+use Rattle.formula_rules.specs.FormulaReader.{choose, moveIn, endIn, breaks, openerOf}
+use Rattle.formula_rules.specs.FormulaCalls.{Blank, ItemStops, ModeRead}
+use Rattle.formula_rules.specs.FormulaTapes.{axisOpcode}
+use Rattle.formula_rules.specs.FormulaDepths.{clausesAt}
+use Rattle.formula_rules.proofs.FormulaSteps.{NoItem, no-item, no-bracket}
+use Rattle.formula_rules.proofs.FormulaItems.{mode-start, mode-step, mode-stops, mode-ends, mode-blank, item-stops, item-ends}
+use Rattle.formula_rules.proofs.FormulaItems.{axis-read, bracket-opens, bracket-deep, name-opens, name-deep}
 use Rattle.formula.specs.Bytes.{byteAt}
 use Rattle.formula.specs.Heads.{Spells, BreaksIn, NoLeaf, NameAt, OpensAt, OneAt, TwoAt, Follows, nothing, one}
 use Rattle.formula.specs.Heads.{functionOpcode, LeafAt, NoDigit, NoSpace}

@@ -11,14 +11,14 @@ use native.Mathlib.Omega.{arith}
 use lib.Dec.{leb, ltb}
 use lib.ListN.{length, getD}
 use borrow.Author.Tests.{le-leb, lt-leb, leb-true, ltb-true, ltb-false}
-use Rattle.rules.specs.Trees.{number}
-use Rattle.rules.specs.Formulas.{isDigit, wholeUnits, decimalUnits}
-use Rattle.rules.specs.FormulaReader.{digits, decimals, point, after, breaks}
-use Rattle.rules.specs.FormulaCalls.{ModeRead, ItemStops}
-use Rattle.rules.specs.FormulaDepths.{clausesAt}
-use Rattle.rules.proofs.FormulaNumbers.{digit-below}
-use Rattle.rules.proofs.FormulaItems.{digit-start, digit-step, point-step, decimal-start, decimal-step, no-decimal}
-use Rattle.rules.proofs.FormulaItems.{whole-read, decimal-read, mode-ends}
+use Rattle.formula_rules.specs.Trees.{number}
+use Rattle.formula_rules.specs.Formulas.{isDigit, wholeUnits, decimalUnits}
+use Rattle.formula_rules.specs.FormulaReader.{digits, decimals, point, after, breaks}
+use Rattle.formula_rules.specs.FormulaCalls.{ModeRead, ItemStops}
+use Rattle.formula_rules.specs.FormulaDepths.{clausesAt}
+use Rattle.formula_rules.proofs.FormulaNumbers.{digit-below}
+use Rattle.formula_rules.proofs.FormulaItems.{digit-start, digit-step, point-step, decimal-start, decimal-step, no-decimal}
+use Rattle.formula_rules.proofs.FormulaItems.{whole-read, decimal-read, mode-ends}
 use Rattle.formula.specs.declared.digits.Run.{Run}
 use Rattle.formula.specs.Bytes.{byteAt, Ran, none, next, RanOut}
 use Rattle.formula.specs.Heads.{LeafAt, BreaksIn, NoDigit}

@@ -10,8 +10,8 @@ use mir.Syntax.{w32}
 use mir.Val.{toZ}
 use mir.Facts.{toZ-pos}
 use Rattle.rules.specs.Values.{pick}
-use Rattle.rules.specs.FormulaTapes.{textClauses}
-use Rattle.rules.specs.FormulaDepths.{Sheet, five, emit}
+use Rattle.formula_rules.specs.FormulaTapes.{textClauses}
+use Rattle.formula_rules.specs.FormulaDepths.{Sheet, five, emit}
 use Rattle.formula.specs.declared.sheet.Cursor.{Cursor}
 use Rattle.formula.specs.declared.sheet.Clause.{Clause}
 use Rattle.formula.specs.Cursors.{clauseOf, sheetOn, CanStore, Emitted}

@@ -6,7 +6,7 @@ use Prim.Native.Nat.{ℕ, suc, _+_, _-_, _*_, _≤_, _<_}
 use lib.Dec.{ltb, leb}
 use lib.ListN.{length, getD}
 use Rattle.rules.specs.Values.{pick}
-use Rattle.rules.specs.Formulas.{isDigit}
+use Rattle.formula_rules.specs.Formulas.{isDigit}
 use Rattle.formula.specs.declared.digits.Run.{Run}
 
 unfoldable pub byteAt : List ℕ → ℕ → ℕ

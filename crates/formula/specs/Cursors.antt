@@ -5,9 +5,9 @@ use lib.IntN.{ℤ, pos}
 use Prim.Native.Nat.{ℕ, suc, _+_, _*_, _≤_, _<_}
 use lib.ListN.{length}
 use Rattle.rules.specs.Values as values
-use Rattle.rules.specs.Trees.{Tree}
-use Rattle.rules.specs.FormulaTapes.{step}
-use Rattle.rules.specs.FormulaDepths.{Sheet, emit}
+use Rattle.formula_rules.specs.Trees.{Tree}
+use Rattle.formula_rules.specs.FormulaTapes.{step}
+use Rattle.formula_rules.specs.FormulaDepths.{Sheet, emit}
 use Rattle.formula.specs.declared.sheet.Cursor.{Cursor}
 use Rattle.formula.specs.declared.sheet.Clause.{Clause}
 

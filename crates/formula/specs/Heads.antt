@@ -7,13 +7,13 @@ use lib.IntN.{pos}
 use Prim.Native.Nat.{ℕ, suc, _≤_, _<_}
 use lib.Dec.{eqb}
 use lib.ListN.{length, getD}
-use Rattle.rules.specs.Trees.{Tree}
-use Rattle.rules.specs.Formulas.{isDigit, nestLimit, One, Two, oneTree, twoTree}
-use Rattle.rules.specs.FormulaReader.{Level, Frame, Opener, opened, called, firstOf, Spelling, Function, ofOne, ofTwo}
-use Rattle.rules.specs.FormulaReader.{Mode, m-, spelling, named, state, no, go, moveIn, breaks, deep}
-use Rattle.rules.specs.FormulaCalls.{ItemRead, ItemStops, ModeRead, OpenRead}
-use Rattle.rules.specs.FormulaTapes.{unaryOpcode, binaryOpcode, step}
-use Rattle.rules.specs.FormulaDepths.{clausesAt}
+use Rattle.formula_rules.specs.Trees.{Tree}
+use Rattle.formula_rules.specs.Formulas.{isDigit, nestLimit, One, Two, oneTree, twoTree}
+use Rattle.formula_rules.specs.FormulaReader.{Level, Frame, Opener, opened, called, firstOf, Spelling, Function, ofOne, ofTwo}
+use Rattle.formula_rules.specs.FormulaReader.{Mode, m-, spelling, named, state, no, go, moveIn, breaks, deep}
+use Rattle.formula_rules.specs.FormulaCalls.{ItemRead, ItemStops, ModeRead, OpenRead}
+use Rattle.formula_rules.specs.FormulaTapes.{unaryOpcode, binaryOpcode, step}
+use Rattle.formula_rules.specs.FormulaDepths.{clausesAt}
 use Rattle.formula.specs.declared.digits.Numeral.{Numeral}
 use Rattle.formula.specs.declared.digits.Numeral.the-variants as number
 use Rattle.formula.specs.declared.head.Front.{Front}

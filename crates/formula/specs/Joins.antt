@@ -4,9 +4,9 @@ use mathlib.Core.List.{List}
 use mathlib.Core.Logic.{_≢_}
 use Prim.Native.Nat.{ℕ, _<_}
 use lib.ListN.{length, getD}
-use Rattle.rules.specs.Formulas.{SumJoin, ProductJoin, sumByte, productByte, sumTree, productTree}
-use Rattle.rules.specs.FormulaCalls.{NoPlus}
-use Rattle.rules.specs.FormulaTapes.{binaryOpcode}
+use Rattle.formula_rules.specs.Formulas.{SumJoin, ProductJoin, sumByte, productByte, sumTree, productTree}
+use Rattle.formula_rules.specs.FormulaCalls.{NoPlus}
+use Rattle.formula_rules.specs.FormulaTapes.{binaryOpcode}
 
 pub data PlusAt (text : List ℕ) (n : ℕ) : ℕ → Type 0 where
   none : NoPlus text n → PlusAt text n 0

@@ -8,8 +8,8 @@ ghost use Prim.Native.Nat.{_*_, max};
 ghost use lib.Dec.{ltb};
 ghost use lib.Seq.{sets};
 ghost use Rattle.rules.specs.Values.{pick};
-ghost use Rattle.rules.specs.FormulaTapes.{textClauses};
-ghost use Rattle.rules.specs.FormulaDepths.{five};
+ghost use Rattle.formula_rules.specs.FormulaTapes.{textClauses};
+ghost use Rattle.formula_rules.specs.FormulaDepths.{five};
 ghost use Rattle.formula.specs.Cursors.{clauseOf, CanStore, CanEmit, Emitted};
 
 // A place in the text, with the clauses written up to there and the slots that they use.

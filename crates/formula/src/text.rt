@@ -2,7 +2,7 @@
 ghost use mathlib.Core.Path.{_≡_};
 ghost use Prim.Native.Nat.{_≤_};
 ghost use lib.ListN.{length};
-ghost use Rattle.rules.specs.FormulaCalls.{Blank};
+ghost use Rattle.formula_rules.specs.FormulaCalls.{Blank};
 ghost use Rattle.formula.specs.Bytes.{byteAt};
 
 // What stands after the last byte: no byte is so large.

@@ -1,7 +1,7 @@
 -- Lanes done up to one of them, and one lane more: what every loop over the lanes rests on.
 use mathlib.Core.Path.{_≡_, refl, ap, _∙_}
 use mathlib.Core.List.{List}
-use lib.IntN.{ℤ, pos, negsuc, negℤ, +ℤ-idl}
+use lib.IntN.{ℤ, pos, negsuc, negℤ}
 use lib.ListN.{length, set, getD, length-set}
 use lib.Seq.{getD-set-same, getD-set-other}
 use Prim.Native.Nat.{ℕ, zero, suc, _+_, _≤_, _<_}
@@ -9,9 +9,8 @@ use native.Mathlib.Omega.{arith}
 use lib.Dec.{eqb}
 use mathlib.Core.Bool.{Bool, true, false}
 use borrow.Author.Tests.{eqb-true, eqb-false}
-use Rattle.rules.specs.Values.{IsValue, clamped, difference, larger, absolute}
-use Rattle.rules.proofs.Monotone.{clamped-same}
-use Rattle.fixed.proofs.Words.{natAbs-neg}
+use Rattle.rules.specs.Values.{IsValue, difference, larger, absolute}
+use Rattle.rules.proofs.Arithmetic.{zero-less}
 use Rattle.lanes.specs.Lanes.{laneCount}
 
 -- The lanes of r below the k-th have what is wanted of them; d stands where there is no lane.
@@ -35,14 +34,7 @@ module _ {A : Type 0} (d : A) (P : ℕ → A → Type 0) (r : List A) where
   pub all-below : (k : ℕ) → laneCount ≤ k → Below d P r k → (j : ℕ) → j < laneCount → P j (getD r j d)
   all-below k h b j l = b .at j (omega arith)
 
--- What a value leaves of 0 is its negative, and the greater of the two its size.
-zero-difference : (z : ℤ) → difference (pos 0) z ≡ clamped (negℤ z)
-unfolding difference
-zero-difference z = ap clamped (+ℤ-idl (negℤ z))
-
-pub zero-less : (z : ℤ) → IsValue z → difference (pos 0) z ≡ negℤ z
-zero-less z h = zero-difference z ∙ clamped-same (negℤ z) (record { bound = rw natAbs-neg (h .bound) })
-
+-- Of a value and what it leaves of 0 the greater is its size.
 larger-negative : (z : ℤ) → larger z (negℤ z) ≡ absolute z
 unfolding larger
 larger-negative (pos zero) = refl

@@ -1,6 +1,5 @@
 -- What must hold, to be read against the scope paper: fixed-point values and ranges, tapes and what makes one accepted,
--- drawings, slopes, pictures and their files, probes, the program, and the demands; what a formula means, its tape, its
--- text and the text's reader.
+-- drawings, slopes, pictures and their files, probes, the program, and the demands.
 pub mod Values
 pub mod Tapes
 pub mod Marks
@@ -11,9 +10,3 @@ pub mod Pictures
 pub mod Probes
 pub mod Program
 pub mod Demands
-pub mod Trees
-pub mod Formulas
-pub mod FormulaReader
-pub mod FormulaCalls
-pub mod FormulaTapes
-pub mod FormulaDepths

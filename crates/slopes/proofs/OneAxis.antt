@@ -8,6 +8,7 @@ use native.Mathlib.Omega.{arith}
 use borrow.Author.Tests.{ltb-true, ltb-false, ne-eqb}
 use mir.Syntax.{w32}
 use mir.Val.{SFits, ofZ}
+use Rattle.rules.specs.Values.{absolute}
 use Rattle.rules.specs.Slopes.{bySign, zeroAt}
 
 -- The slope with the value's sign, 0 at 0.
@@ -24,6 +25,12 @@ pub sign-none : (a p : ℤ) → ltZ a (pos 0) ≡ false → ltZ (pos 0) a ≡ fa
 sign-none (pos zero) p e h = refl
 sign-none (pos (suc a)) p e h = absurd (omega (arith, ltb-false 0 (suc a) h))
 sign-none (negsuc a) p e h = absurd (true≢false e)
+
+-- With its own sign a value is its size.
+pub own-sign : (a : ℤ) → bySign a a ≡ absolute a
+own-sign (pos zero) = refl
+own-sign (pos (suc a)) = refl
+own-sign (negsuc a) = refl
 
 -- 0 where the divisor is 0.
 pub at-zero : (b p : ℤ) → SFits w32 b → ofZ w32 b ≡ 0 → pos 0 ≡ zeroAt b p

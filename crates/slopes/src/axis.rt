@@ -2,15 +2,23 @@
 // the clause's value.
 use fixed::value;
 ghost use mathlib.Core.Path.{_≡_};
+ghost use lib.IntN.{negℤ};
 ghost use Rattle.rules.specs.Values.{IsValue, sum, difference, product, quotient};
 ghost use Rattle.rules.specs.Slopes.{bySign, twice, zeroAt};
 
+// In the two that follow p may be the one number of 32 bits that is no value, so the negative is taken by a difference,
+// which is clamped.
+pub fn negative(p: i32) -> i32
+    ensures { λ r. ⌜ (IsValue p → r ≡ negℤ p) ⌝ }
+{
+    value::subtract(0, p)
+}
+
 pub fn by_sign(a: i32, p: i32) -> i32
-    requires { ⌜ IsValue p ⌝ }
-    ensures { λ r. ⌜ r ≡ bySign a p ⌝ }
+    ensures { λ r. ⌜ (IsValue p → r ≡ bySign a p) ⌝ }
 {
     if a < 0 {
-        value::negate(p)
+        negative(p)
     } else {
         if 0 < a { p } else { 0 }
     }

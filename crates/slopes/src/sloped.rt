@@ -5,7 +5,7 @@ ghost use mathlib.Core.Path.{_≡_};
 ghost use lib.IntN.{pos, negℤ};
 ghost use Rattle.rules.specs.Values.{pick, below, sum, difference, product, square, absolute, rootOf, quotient};
 ghost use Rattle.rules.specs.Slopes.{bySign, twice, zeroAt};
-ghost use Rattle.slopes.specs.Shapes.{made, each, eachOfTwo, AllValues};
+ghost use Rattle.slopes.specs.Shapes.{fourIn, each, eachOfTwo, AllValues};
 
 // A value, and its slopes on x, y and z.
 pub struct Sloped {
@@ -15,25 +15,41 @@ pub struct Sloped {
     pub z: i32,
 }
 
-pub fn negate(a: Sloped) -> Sloped
-    requires { ⌜ AllValues a ⌝ }
-    ensures { λ r. ⌜ r ≡ each (negℤ (a .value)) negℤ a ⌝ }
+// The four numbers of a slot, and back.
+pub fn in_slot(row: [i32; 4]) -> Sloped
+    ensures { λ r. ⌜ r ≡ fourIn row ⌝ }
 {
     Sloped {
-        value: value::negate(a.value),
-        x: value::negate(a.x),
-        y: value::negate(a.y),
-        z: value::negate(a.z),
+        value: row[0],
+        x: row[1],
+        y: row[2],
+        z: row[3],
+    }
+}
+
+pub fn for_slot(a: Sloped) -> [i32; 4]
+    ensures { λ r. ⌜ fourIn r ≡ a ⌝ }
+{
+    [a.value, a.x, a.y, a.z]
+}
+
+pub fn negate(a: Sloped) -> Sloped
+    ensures { λ r. ⌜ (AllValues a → r ≡ each (negℤ (a .value)) negℤ a) ⌝ }
+{
+    Sloped {
+        value: axis::negative(a.value),
+        x: axis::negative(a.x),
+        y: axis::negative(a.y),
+        z: axis::negative(a.z),
     }
 }
 
 pub fn absolute(a: Sloped) -> Sloped
-    requires { ⌜ AllValues a ⌝ }
-    ensures { λ r. ⌜ r ≡ each (absolute (a .value)) (bySign (a .value)) a ⌝ }
+    ensures { λ r. ⌜ (AllValues a → r ≡ each (absolute (a .value)) (bySign (a .value)) a) ⌝ }
 {
     let p = a.value;
     Sloped {
-        value: value::absolute(p),
+        value: axis::by_sign(p, p),
         x: axis::by_sign(p, a.x),
         y: axis::by_sign(p, a.y),
         z: axis::by_sign(p, a.z),

@@ -7,8 +7,8 @@ use mir.Facts.{toZ-ofZ}
 use Prim.Native.Nat.{_-_, _≤_}
 use lib.IntN.{pos, negℤ}
 use Rattle.rules.specs.Values.{IsValue, difference}
+use Rattle.rules.proofs.Arithmetic.{zero-less}
 use Rattle.fixed.proofs.Words.{back-two}
-use Rattle.lanes.proofs.LaneLaws.{zero-less}
 use Rattle.lanes.specs.Lanes.{laneCount, lane}
 use Rattle.lanes.proofs.LaneLaws.{Below, none-below, one-more, all-below}
 use Rattle.lanes.proofs.negate.Statement.{statement}

@@ -3,8 +3,8 @@ use mathlib.Core.Path.{_≡_, sym, _∙_}
 use Prim.Native.Nat.{ℕ, _+_, _<_}
 use native.Mathlib.Omega.{arith}
 use borrow.Author.Needs.{needs}
-use Rattle.rules.specs.FormulaReader.{point}
-use Rattle.rules.specs.FormulaCalls.{ModeRead}
+use Rattle.formula_rules.specs.FormulaReader.{point}
+use Rattle.formula_rules.specs.FormulaCalls.{ModeRead}
 use Rattle.formula.proofs.Bytes.{Here, here}
 use Rattle.formula.proofs.Numbers.{none-there, whole-at, point-at, no-decimals, decimal-at, part-below, ran-on}
 use Rattle.formula.proofs.Numbers.{ran-below}

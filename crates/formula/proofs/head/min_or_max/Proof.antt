@@ -2,8 +2,8 @@
 use mathlib.Core.Path.{refl}
 use native.Mathlib.Omega.{arith}
 use borrow.Author.Needs.{needs}
-use Rattle.rules.specs.Formulas.{minName, maxName}
-use Rattle.rules.specs.FormulaReader.{mi-, ma-, ofTwo}
+use Rattle.formula_rules.specs.Formulas.{minName, maxName}
+use Rattle.formula_rules.specs.FormulaReader.{mi-, ma-, ofTwo}
 use Rattle.formula.proofs.Bytes.{Here, here}
 use Rattle.formula.proofs.Names.{then-i, then-a, then-none, spells-min, spells-max}
 use Rattle.formula.proofs.head.min_or_max.Statement.{statement}

@@ -3,9 +3,9 @@ use mathlib.Core.Path.{_≡_, refl}
 use Prim.Native.Nat.{_+_}
 use native.Mathlib.Omega.{arith}
 use borrow.Author.Needs.{needs}
-use Rattle.rules.specs.Formulas.{absName, sqrName, rootName}
-use Rattle.rules.specs.FormulaReader.{a-, ab-, s-, sq-, r-, ro-, roo-, ofOne, spelling}
-use Rattle.rules.specs.FormulaCalls.{ModeRead}
+use Rattle.formula_rules.specs.Formulas.{absName, sqrName, rootName}
+use Rattle.formula_rules.specs.FormulaReader.{a-, ab-, s-, sq-, r-, ro-, roo-, ofOne, spelling}
+use Rattle.formula_rules.specs.FormulaCalls.{ModeRead}
 use Rattle.formula.proofs.Bytes.{Here, here}
 use Rattle.formula.proofs.Names.{first-a, first-s, first-r, first-m, no-word, no-letter, next-letter, spells-ab}
 use Rattle.formula.proofs.Names.{spells-abs, spells-sq, spells-sqr, spells-ro, spells-roo, spells-root}

@@ -5,9 +5,9 @@ use lib.IntN.{pos}
 use Prim.Native.String.{String, [] as none, _∷_ as _then_}
 use Prim.Native.Char.{code}
 use Prim.Native.Nat.{ℕ, zero, suc}
-use Rattle.rules.specs.Trees.{Tree, number, axis, unary, binary, axisX, axisY, axisZ, negate, abs, sqr, root}
-use Rattle.rules.specs.Trees.{add, subtract, multiply, divide, minimum, maximum}
-use Rattle.rules.specs.FormulaReader.{Answer, done, breaks, deep, reader, answer, moveIn, choose}
+use Rattle.formula_rules.specs.Trees.{Tree, number, axis, unary, binary, axisX, axisY, axisZ, negate, abs, sqr, root}
+use Rattle.formula_rules.specs.Trees.{add, subtract, multiply, divide, minimum, maximum}
+use Rattle.formula_rules.specs.FormulaReader.{Answer, done, breaks, deep, reader, answer, moveIn, choose}
 
 abbrev bytes : String → List ℕ
 bytes none = []

@@ -3,16 +3,16 @@ use mathlib.Core.Path.{_≡_, refl, _∙_, ap}
 use mathlib.Core.List.{List, [], _∷_}
 use Prim.Native.Nat.{ℕ}
 use native.Mathlib.Omega.{arith}
-use Rattle.rules.specs.Trees.{Tree, axisX}
-use Rattle.rules.specs.Formulas.{one, count, Decimals, decimal, plus, absName, sqrName, rootName, minName}
-use Rattle.rules.specs.Formulas.{maxName, Sum, product, joined, signed, plain, Item, constant, variable, bracket}
-use Rattle.rules.specs.Formulas.{call, pair, Text, spaces, writeDigits, writeSum, writeItem, bytesOf, treeOf}
-use Rattle.rules.specs.FormulaReader.{digits, after, Spelling, a-, ab-, s-, sq-, r-, ro-, roo-, m-, mi-, ma-}
-use Rattle.rules.specs.FormulaReader.{ofOne, ofTwo, Answer, done, breaks, endIn}
-use Rattle.rules.proofs.FormulaParts.{Open, Opening, Part, Partial, Reading, ends, framesOf, freshPart}
-use Rattle.rules.proofs.FormulaParts.{item-bytes, item-sum-tree, itemSum, levelOf, modeOf, names, openFirst}
-use Rattle.rules.proofs.FormulaParts.{openOne, openPlain, openSecond, partial, points, spells, stateOf, wants}
-use Rattle.rules.proofs.FormulaParts.{write, writeOpening, writePart, writeReading, writeStack}
+use Rattle.formula_rules.specs.Trees.{Tree, axisX}
+use Rattle.formula_rules.specs.Formulas.{one, count, Decimals, decimal, plus, absName, sqrName, rootName, minName}
+use Rattle.formula_rules.specs.Formulas.{maxName, Sum, product, joined, signed, plain, Item, constant, variable, bracket}
+use Rattle.formula_rules.specs.Formulas.{call, pair, Text, spaces, writeDigits, writeSum, writeItem, bytesOf, treeOf}
+use Rattle.formula_rules.specs.FormulaReader.{digits, after, Spelling, a-, ab-, s-, sq-, r-, ro-, roo-, m-, mi-, ma-}
+use Rattle.formula_rules.specs.FormulaReader.{ofOne, ofTwo, Answer, done, breaks, endIn}
+use Rattle.formula_rules.proofs.FormulaParts.{Open, Opening, Part, Partial, Reading, ends, framesOf, freshPart}
+use Rattle.formula_rules.proofs.FormulaParts.{item-bytes, item-sum-tree, itemSum, levelOf, modeOf, names, openFirst}
+use Rattle.formula_rules.proofs.FormulaParts.{openOne, openPlain, openSecond, partial, points, spells, stateOf, wants}
+use Rattle.formula_rules.proofs.FormulaParts.{write, writeOpening, writePart, writeReading, writeStack}
 
 -- The shortest item, and a bracket closed around a sum.
 abbrev itemX : ℕ → Item

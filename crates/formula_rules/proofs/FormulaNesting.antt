@@ -7,15 +7,15 @@ use native.Mathlib.Omega.{arith}
 use lib.Dec.{eqb, leb}
 use lib.ListN.{length, length-append}
 use borrow.Author.Tests.{leb-true, eqb-false, ne-eqb}
-use Rattle.rules.specs.Trees.{Axis, axisX, axisY, axisZ}
-use Rattle.rules.specs.Formulas.{nestLimit, isDigit, Digits, one, more, Number, whole, decimal, SumJoin, plus}
-use Rattle.rules.specs.Formulas.{less, ProductJoin, times, over, One, absName, sqrName, rootName, Two, minName}
-use Rattle.rules.specs.Formulas.{maxName, Sum, product, joined, Product, signed, multiplied, Signed, plain, minus}
-use Rattle.rules.specs.Formulas.{Item, constant, variable, bracket, call, pair, Text, spaces, writeDigits}
-use Rattle.rules.specs.Formulas.{writeNumber, axisByte, sumByte, productByte, writeOne, writeTwo, writeSum}
-use Rattle.rules.specs.Formulas.{writeProduct, writeSigned, writeItem, bytesOf, openAfter, insideFrom, Shallow}
-use Rattle.rules.specs.Formulas.{nestSum, nestProduct, nestSigned, nestItem, nestOf}
+use Rattle.formula_rules.specs.Trees.{Axis, axisX, axisY, axisZ}
+use Rattle.formula_rules.specs.Formulas.{nestLimit, isDigit, Digits, one, more, Number, whole, decimal, SumJoin, plus}
+use Rattle.formula_rules.specs.Formulas.{less, ProductJoin, times, over, One, absName, sqrName, rootName, Two, minName}
+use Rattle.formula_rules.specs.Formulas.{maxName, Sum, product, joined, Product, signed, multiplied, Signed, plain, minus}
+use Rattle.formula_rules.specs.Formulas.{Item, constant, variable, bracket, call, pair, Text, spaces, writeDigits}
+use Rattle.formula_rules.specs.Formulas.{writeNumber, axisByte, sumByte, productByte, writeOne, writeTwo, writeSum}
+use Rattle.formula_rules.specs.Formulas.{writeProduct, writeSigned, writeItem, bytesOf, openAfter, insideFrom, Shallow}
+use Rattle.formula_rules.specs.Formulas.{nestSum, nestProduct, nestSigned, nestItem, nestOf}
 use Rattle.rules.proofs.Tests.{and-left}
 
 -- No bracket of these bytes opens inside 32 others, n being open before them.
 unfoldable ShallowFrom : ℕ → List ℕ → Type 0

@@ -9,14 +9,14 @@ use lib.Dec.{leb, ltb}
 use lib.ListN.{length, take, drop, length-append}
 use lib.Seq.{sets, sets-eq, length-sets, length-take-le, take-at}
 use borrow.Author.Tests.{lt-ltb}
 use Rattle.rules.specs.Values.{pick, Clause}
 use Rattle.rules.specs.Tapes.{Tape, listOf}
-use Rattle.rules.specs.Trees.{Unary, Binary, Axis, Tree, number, axis, unary, binary}
-use Rattle.rules.specs.FormulaTapes.{axisOpcode, unaryOpcode, binaryOpcode, step, beyond, outs, tapeOf}
-use Rattle.rules.specs.FormulaTapes.{textClauses, textSlots, fitsText}
-use Rattle.rules.specs.FormulaDepths.{clausesAt, countOf, slotsOf, Sheet, blank, five, emit, emitAll}
-use Rattle.rules.specs.FormulaDepths.{sheetOf}
-use Rattle.rules.proofs.FormulaSlots.{beyond-clauses, length-clauses, slot-rule}
+use Rattle.formula_rules.specs.Trees.{Unary, Binary, Axis, Tree, number, axis, unary, binary}
+use Rattle.formula_rules.specs.FormulaTapes.{axisOpcode, unaryOpcode, binaryOpcode, step, beyond, outs, tapeOf}
+use Rattle.formula_rules.specs.FormulaTapes.{textClauses, textSlots, fitsText}
+use Rattle.formula_rules.specs.FormulaDepths.{clausesAt, countOf, slotsOf, Sheet, blank, five, emit, emitAll}
+use Rattle.formula_rules.specs.FormulaDepths.{sheetOf}
+use Rattle.formula_rules.proofs.FormulaSlots.{beyond-clauses, length-clauses, slot-rule}
 
 -- A tree's clauses one after another, by its parts.
 pub emit-append : (cs ds : List Clause) (w : Sheet) → emitAll (cs ++ ds) w ≡ emitAll ds (emitAll cs w)

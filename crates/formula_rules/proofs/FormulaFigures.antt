@@ -5,13 +5,13 @@ use mathlib.Core.List.{List, [], _∷_, _++_, map}
 use lib.IntN.{ℤ, pos}
 use Prim.Native.Nat.{ℕ, zero, suc}
 use lib.ListN.{length}
 use Rattle.rules.specs.Values.{pick}
 use Rattle.rules.specs.Tapes.{edition}
 use Rattle.rules.specs.Tapes.{Tape, isIn, clauseBytes, tapeBytes}
-use Rattle.rules.specs.Trees.{negate, add, multiply, divide, maximum, axisX, axisY, axisZ, Tree, number}
-use Rattle.rules.specs.Trees.{axis, unary, binary}
-use Rattle.rules.specs.FormulaTapes.{parts, beyond, lowestFrom, lowest, placed, tapeOf, fitsText}
+use Rattle.formula_rules.specs.Trees.{negate, add, multiply, divide, maximum, axisX, axisY, axisZ, Tree, number}
+use Rattle.formula_rules.specs.Trees.{axis, unary, binary}
+use Rattle.formula_rules.specs.FormulaTapes.{parts, beyond, lowestFrom, lowest, placed, tapeOf, fitsText}
 use Rattle.rules.proofs.Figures.{Row}
 
 abbrev x : Tree
 x = axis axisX

@@ -7,9 +7,9 @@ use Prim.Native.Nat.{ℕ, suc, _+_, _*_, max}
 use lib.Dec.{ltb}
 use lib.ListN.{length}
 use lib.Seq.{sets}
 use Rattle.rules.specs.Values.{pick, Clause}
-use Rattle.rules.specs.Trees.{Tree, number, axis, unary, binary}
-use Rattle.rules.specs.FormulaTapes.{axisOpcode, unaryOpcode, binaryOpcode, step, textClauses}
+use Rattle.formula_rules.specs.Trees.{Tree, number, axis, unary, binary}
+use Rattle.formula_rules.specs.FormulaTapes.{axisOpcode, unaryOpcode, binaryOpcode, step, textClauses}
 
 -- The clauses of a tree while operands wait in the slots below d: its result is in slot d.
 unfoldable pub clausesAt : ℕ → Tree → List Clause

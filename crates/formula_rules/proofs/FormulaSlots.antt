@@ -9,13 +9,13 @@ use native.Mathlib.Omega.{arith}
 use lib.Dec.{eqb, ltb}
 use lib.ListN.{length, length-append}
 use borrow.Author.Tests.{eqb-true, eqb-false, ltb-true, ltb-false}
 use Rattle.rules.specs.Values.{pick, Clause}
 use Rattle.rules.specs.Tapes.{Tape, isIn}
-use Rattle.rules.specs.Trees.{Unary, Binary, Axis, Tree, number, axis, unary, binary}
-use Rattle.rules.specs.FormulaTapes.{axisOpcode, unaryOpcode, binaryOpcode, step, Part, aNumber, anAxis, ofUnary}
-use Rattle.rules.specs.FormulaTapes.{ofBinary, parts, beyond, lowestFrom, lowest, placed, outs, tapeOf}
-use Rattle.rules.specs.FormulaDepths.{clausesAt, countOf, slotsOf}
+use Rattle.formula_rules.specs.Trees.{Unary, Binary, Axis, Tree, number, axis, unary, binary}
+use Rattle.formula_rules.specs.FormulaTapes.{axisOpcode, unaryOpcode, binaryOpcode, step, Part, aNumber, anAxis, ofUnary}
+use Rattle.formula_rules.specs.FormulaTapes.{ofBinary, parts, beyond, lowestFrom, lowest, placed, outs, tapeOf}
+use Rattle.formula_rules.specs.FormulaDepths.{clausesAt, countOf, slotsOf}
 use Rattle.rules.proofs.Needed.{in-first, in-next, in-cases, in-none, in-left, in-right}
 
 -- Every one of some slots is below the first beyond them.
 pub in-beyond : (j : ℕ) (ws : List ℕ) → isIn j ws ≡ true → j < beyond ws

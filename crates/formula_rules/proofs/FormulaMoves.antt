@@ -7,27 +7,27 @@ use native.Mathlib.Omega.{arith}
 use lib.Dec.{eqb, leb}
 use lib.ListN.{length}
 use borrow.Author.Tests.{leb-true, eqb-true, ne-eqb}
 use Rattle.rules.specs.Values.{pick}
-use Rattle.rules.specs.Trees.{Tree, axisX, axisY, axisZ, binary, unary}
-use Rattle.rules.specs.Formulas.{isDigit, one, more, count, value, Whole, whole, decimal, SumJoin, plus, less}
-use Rattle.rules.specs.Formulas.{ProductJoin, times, over, absName, sqrName, rootName, minName, maxName, Item}
-use Rattle.rules.specs.Formulas.{constant, variable, bracket, call, pair, spaces, writeDigits, sumByte}
-use Rattle.rules.specs.Formulas.{productByte, writeOne, writeTwo, openAfter, writeSum, sumTree, productTree}
-use Rattle.rules.specs.Formulas.{oneTree, twoTree, treeSum}
-use Rattle.rules.specs.FormulaReader.{none, waits, level, productTo, sumTo, secondOf, item, digits, decimals}
-use Rattle.rules.specs.FormulaReader.{endTree, want, State, state, Spelling, a-, ab-, s-, sq-, r-, ro-, roo-, m-}
-use Rattle.rules.specs.FormulaReader.{mi-, ma-, Move, no, go, Row, choose, push, ofOne, ofTwo, Function, moveIn}
-use Rattle.rules.specs.FormulaReader.{move, wantRows, spellRows, namedRows, closeRow, closeRows, joinRows}
-use Rattle.rules.specs.FormulaReader.{digitMove, pointMove, minusMove, whenFits}
+use Rattle.formula_rules.specs.Trees.{Tree, axisX, axisY, axisZ, binary, unary}
+use Rattle.formula_rules.specs.Formulas.{isDigit, one, more, count, value, Whole, whole, decimal, SumJoin, plus, less}
+use Rattle.formula_rules.specs.Formulas.{ProductJoin, times, over, absName, sqrName, rootName, minName, maxName, Item}
+use Rattle.formula_rules.specs.Formulas.{constant, variable, bracket, call, pair, spaces, writeDigits, sumByte}
+use Rattle.formula_rules.specs.Formulas.{productByte, writeOne, writeTwo, openAfter, writeSum, sumTree, productTree}
+use Rattle.formula_rules.specs.Formulas.{oneTree, twoTree, treeSum}
+use Rattle.formula_rules.specs.FormulaReader.{none, waits, level, productTo, sumTo, secondOf, item, digits, decimals}
+use Rattle.formula_rules.specs.FormulaReader.{endTree, want, State, state, Spelling, a-, ab-, s-, sq-, r-, ro-, roo-, m-}
+use Rattle.formula_rules.specs.FormulaReader.{mi-, ma-, Move, no, go, Row, choose, push, ofOne, ofTwo, Function, moveIn}
+use Rattle.formula_rules.specs.FormulaReader.{move, wantRows, spellRows, namedRows, closeRow, closeRows, joinRows}
+use Rattle.formula_rules.specs.FormulaReader.{digitMove, pointMove, minusMove, whenFits}
 use Rattle.rules.proofs.Tests.{and-left, and-right}
-use Rattle.rules.proofs.FormulaNumbers.{digit-below}
-use Rattle.rules.proofs.FormulaTakes.{ending, ended}
-use Rattle.rules.proofs.FormulaParts.{Open, Opening, Part, Partial, ProductLeft, Reading, Sign, SumLeft, bare}
-use Rattle.rules.proofs.FormulaParts.{endAt, ends, framesOf, freshPart, item-bytes, item-product-bytes}
-use Rattle.rules.proofs.FormulaParts.{item-product-tree, item-sum-tree, itemProduct, itemSum, levelOf, modeOf}
-use Rattle.rules.proofs.FormulaParts.{names, negated, noProduct, openFirst, openOne, openPlain, openSecond}
-use Rattle.rules.proofs.FormulaParts.{openerIn, opens, part, partial, points, productWaits, spells, stateOf}
-use Rattle.rules.proofs.FormulaParts.{sumLeft, sumWaits, wants, write, writePart, writeStack, writeSums}
+use Rattle.formula_rules.proofs.FormulaNumbers.{digit-below}
+use Rattle.formula_rules.proofs.FormulaTakes.{ending, ended}
+use Rattle.formula_rules.proofs.FormulaParts.{Open, Opening, Part, Partial, ProductLeft, Reading, Sign, SumLeft, bare}
+use Rattle.formula_rules.proofs.FormulaParts.{endAt, ends, framesOf, freshPart, item-bytes, item-product-bytes}
+use Rattle.formula_rules.proofs.FormulaParts.{item-product-tree, item-sum-tree, itemProduct, itemSum, levelOf, modeOf}
+use Rattle.formula_rules.proofs.FormulaParts.{names, negated, noProduct, openFirst, openOne, openPlain, openSecond}
+use Rattle.formula_rules.proofs.FormulaParts.{openerIn, opens, part, partial, points, productWaits, spells, stateOf}
+use Rattle.formula_rules.proofs.FormulaParts.{sumLeft, sumWaits, wants, write, writePart, writeStack, writeSums}
 
 -- The byte b is one more byte of the parts, and the reader then keeps s.
 pub record Goes (d : Partial) (b : ℕ) (s : State) : Type 0 where

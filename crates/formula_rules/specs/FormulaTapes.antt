@@ -5,10 +5,10 @@ use lib.IntN.{ℤ, pos}
 use Prim.Native.Nat.{ℕ, zero, suc, max}
 use lib.Dec.{leb}
 use lib.ListN.{length}
 use Rattle.rules.specs.Values.{pick, IsValue, Clause}
 use Rattle.rules.specs.Tapes.{Tape, isIn}
-use Rattle.rules.specs.Trees.{Unary, negate, abs, sqr, root, Binary, add, subtract, multiply, divide, minimum}
-use Rattle.rules.specs.Trees.{maximum, Axis, axisX, axisY, axisZ, Tree, number, axis, unary, binary}
+use Rattle.formula_rules.specs.Trees.{Unary, negate, abs, sqr, root, Binary, add, subtract, multiply, divide, minimum}
+use Rattle.formula_rules.specs.Trees.{maximum, Axis, axisX, axisY, axisZ, Tree, number, axis, unary, binary}
 
 -- The opcodes, by the table of opcodes.
 abbrev pub axisOpcode : Axis → ℕ

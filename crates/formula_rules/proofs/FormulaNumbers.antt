@@ -8,13 +8,13 @@ use native.Mathlib.Nat.{div-lt-iff-lt-mul, pow-suc}
 use native.Mathlib.Omega.{arith}
 use lib.Dec.{leb}
 use borrow.Author.Tests.{leb-true}
 use Rattle.rules.specs.Values.{IsValue}
-use Rattle.rules.specs.Trees.{Unary, Binary, Axis, Tree, number, axis, unary, binary, negate}
-use Rattle.rules.specs.Formulas.{isDigit, Digits, one, more, count, value, Number, whole, decimal, units, Sum}
-use Rattle.rules.specs.Formulas.{product, joined, Product, signed, multiplied, Signed, plain, minus, Item}
-use Rattle.rules.specs.Formulas.{constant, variable, bracket, call, pair, Text, sumTree, productTree, oneTree}
-use Rattle.rules.specs.Formulas.{twoTree, treeSum, treeProduct, treeSigned, treeItem, treeOf, ReadsAs}
+use Rattle.formula_rules.specs.Trees.{Unary, Binary, Axis, Tree, number, axis, unary, binary, negate}
+use Rattle.formula_rules.specs.Formulas.{isDigit, Digits, one, more, count, value, Number, whole, decimal, units, Sum}
+use Rattle.formula_rules.specs.Formulas.{product, joined, Product, signed, multiplied, Signed, plain, minus, Item}
+use Rattle.formula_rules.specs.Formulas.{constant, variable, bracket, call, pair, Text, sumTree, productTree, oneTree}
+use Rattle.formula_rules.specs.Formulas.{twoTree, treeSum, treeProduct, treeSigned, treeItem, treeOf, ReadsAs}
 use Rattle.rules.proofs.Tests.{and-right}
 
 -- Digits below their power of 10, so decimals below a whole.
 pub digit-below : (c : ℕ) → isDigit c ≡ true → c - 48 ≤ 9

@@ -6,14 +6,14 @@ use Prim.Native.Nat.{ℕ, suc, _+_, _<_, _≤_}
 use native.Mathlib.Omega.{arith}
 use lib.ListN.{length, getD, set, replicate, length-set, length-replicate}
 use lib.Seq.{getD-set-same, getD-set-other}
 use Rattle.rules.specs.Values.{Clause, Sample, unaryValue, binaryValue, valueOf}
 use Rattle.rules.specs.Tapes.{runFrom, valueAt}
-use Rattle.rules.specs.Trees.{Unary, negate, abs, sqr, root, Binary, add, subtract, multiply, divide, minimum}
-use Rattle.rules.specs.Trees.{maximum, Axis, axisX, axisY, axisZ, Tree, number, axis, unary, binary, coordinate}
-use Rattle.rules.specs.Trees.{unaryMeaning, binaryMeaning, meaning}
-use Rattle.rules.specs.FormulaTapes.{axisOpcode, unaryOpcode, binaryOpcode, step, tapeOf}
-use Rattle.rules.specs.FormulaDepths.{clausesAt, slotsOf}
-use Rattle.rules.proofs.FormulaSlots.{slots-some, slot-rule}
+use Rattle.formula_rules.specs.Trees.{Unary, negate, abs, sqr, root, Binary, add, subtract, multiply, divide, minimum}
+use Rattle.formula_rules.specs.Trees.{maximum, Axis, axisX, axisY, axisZ, Tree, number, axis, unary, binary, coordinate}
+use Rattle.formula_rules.specs.Trees.{unaryMeaning, binaryMeaning, meaning}
+use Rattle.formula_rules.specs.FormulaTapes.{axisOpcode, unaryOpcode, binaryOpcode, step, tapeOf}
+use Rattle.formula_rules.specs.FormulaDepths.{clausesAt, slotsOf}
+use Rattle.formula_rules.proofs.FormulaSlots.{slots-some, slot-rule}
 
 -- Running some clauses leaves v in slot d and as the result, and the slots below d as they were.
 record Ran (cs : List Clause) (s : Sample) (d : ℕ) (v : ℤ) (vs : List ℤ) : Type 0 where

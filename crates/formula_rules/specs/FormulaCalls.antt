@@ -7,9 +7,9 @@ use mathlib.Core.List.{List}
 use mathlib.Core.Logic.{_≢_}
 use Prim.Native.Nat.{ℕ, _≤_, _<_}
 use lib.ListN.{length, getD, drop}
-use Rattle.rules.specs.Trees.{Tree}
-use Rattle.rules.specs.FormulaReader.{Left, none, Level, level, fresh, joinLeft, Frame, item, want, after, Mode}
-use Rattle.rules.specs.FormulaReader.{State, Opener, push, state, Answer, answer}
+use Rattle.formula_rules.specs.Trees.{Tree}
+use Rattle.formula_rules.specs.FormulaReader.{Left, none, Level, level, fresh, joinLeft, Frame, item, want, after, Mode}
+use Rattle.formula_rules.specs.FormulaReader.{State, Opener, push, state, Answer, answer}
 
 -- After an item of the tree t.
 abbrev pub atEnd : Tree → Level → List Frame → State

@@ -10,18 +10,18 @@ use lib.IntN.{pos}
 use lib.ListN.{length, getD, take, drop, length-append, take-append-drop}
 use lib.Seq.{append-snoc, take-at, getD-at, getD-take, take-length, take-take, split-at, length-take-le}
 use borrow.Author.Tests.{eqb-true, leb-true, leb-false}
-use Rattle.rules.specs.Trees.{Tree, number}
-use Rattle.rules.specs.Formulas.{nestLimit, Text, bytesOf, treeOf, nestOf, spaces, Allowed, CanBegin, openAfter}
-use Rattle.rules.specs.Formulas.{insideFrom, inside, ReadsAs, Shallow, BreaksAt, DeepAt}
-use Rattle.rules.specs.FormulaReader.{sumTo, endTree, State, start, Move, no, go, move, Answer, done, breaks}
-use Rattle.rules.specs.FormulaReader.{deep, Level, Mode, want, spelling, named, point, after, endIn, tooDeep}
-use Rattle.rules.specs.FormulaReader.{onward, answer, reader}
+use Rattle.formula_rules.specs.Trees.{Tree, number}
+use Rattle.formula_rules.specs.Formulas.{nestLimit, Text, bytesOf, treeOf, nestOf, spaces, Allowed, CanBegin, openAfter}
+use Rattle.formula_rules.specs.Formulas.{insideFrom, inside, ReadsAs, Shallow, BreaksAt, DeepAt}
+use Rattle.formula_rules.specs.FormulaReader.{sumTo, endTree, State, start, Move, no, go, move, Answer, done, breaks}
+use Rattle.formula_rules.specs.FormulaReader.{deep, Level, Mode, want, spelling, named, point, after, endIn, tooDeep}
+use Rattle.formula_rules.specs.FormulaReader.{onward, answer, reader}
 use Rattle.rules.proofs.Tests.{and-left, and-right}
-use Rattle.rules.proofs.FormulaTakes.{moved, reach, goes-through}
-use Rattle.rules.proofs.FormulaParts.{Partial, stateOf, write}
-use Rattle.rules.proofs.FormulaMoves.{Goes, Good, goes, good-move}
-use Rattle.rules.proofs.FormulaEnds.{EndsAs, broken, whole-text, startParts, finish, ends-as}
-use Rattle.rules.proofs.FormulaNesting.{nested-shallow, shallow-nested}
+use Rattle.formula_rules.proofs.FormulaTakes.{moved, reach, goes-through}
+use Rattle.formula_rules.proofs.FormulaParts.{Partial, stateOf, write}
+use Rattle.formula_rules.proofs.FormulaMoves.{Goes, Good, goes, good-move}
+use Rattle.formula_rules.proofs.FormulaEnds.{EndsAs, broken, whole-text, startParts, finish, ends-as}
+use Rattle.formula_rules.proofs.FormulaNesting.{nested-shallow, shallow-nested}
 
 -- Where bytes lead, a part after the other.
 reach-append : (p q : List ℕ) (m : Move) → reach m (p ++ q) ≡ reach (reach m p) q

@@ -8,21 +8,21 @@ use native.Mathlib.Omega.{arith}
 use lib.Dec.{leb}
 use lib.ListN.{length, take}
 use borrow.Author.Tests.{le-leb, leb-true, lt-leb}
 use Rattle.rules.specs.Values.{IsValue, Clause, Sample}
 use Rattle.rules.specs.Tapes.{Tape, lastOpcode, isIn, valueAt, Got, good, readTape, readList, tapeBytes, listOf}
 use Rattle.rules.specs.Accepted.{Fits, AllFit, Accepted}
-use Rattle.rules.specs.Trees.{Unary, negate, abs, sqr, root, Binary, add, subtract, multiply, divide, minimum}
-use Rattle.rules.specs.Trees.{maximum, Axis, axisX, axisY, axisZ, Tree, number, axis, unary, binary, meaning}
-use Rattle.rules.specs.FormulaTapes.{axisOpcode, unaryOpcode, binaryOpcode, step, tapeOf, textClauses, textSlots}
-use Rattle.rules.specs.FormulaTapes.{fitsText, Numbers}
-use Rattle.rules.specs.FormulaDepths.{clausesAt, countOf, slotsOf, Sheet}
+use Rattle.formula_rules.specs.Trees.{Unary, negate, abs, sqr, root, Binary, add, subtract, multiply, divide, minimum}
+use Rattle.formula_rules.specs.Trees.{maximum, Axis, axisX, axisY, axisZ, Tree, number, axis, unary, binary, meaning}
+use Rattle.formula_rules.specs.FormulaTapes.{axisOpcode, unaryOpcode, binaryOpcode, step, tapeOf, textClauses, textSlots}
+use Rattle.formula_rules.specs.FormulaTapes.{fitsText, Numbers}
+use Rattle.formula_rules.specs.FormulaDepths.{clausesAt, countOf, slotsOf, Sheet}
 use Rattle.rules.proofs.Tests.{and-left, and-right}
 use Rattle.rules.proofs.Needed.{in-first, in-next, Among}
 use Rattle.rules.proofs.Accepted.{operand-used, operand-unused, read-again, listed-words}
 use Rattle.rules.proofs.Bytes.{both-ways}
-use Rattle.rules.proofs.FormulaSlots.{slots-some, count-some, length-clauses, byDepth, slot-rule}
-use Rattle.rules.proofs.FormulaSheets.{TapeOn}
-use Rattle.rules.proofs.FormulaValues.{tape-meaning}
+use Rattle.formula_rules.proofs.FormulaSlots.{slots-some, count-some, length-clauses, byDepth, slot-rule}
+use Rattle.formula_rules.proofs.FormulaSheets.{TapeOn}
+use Rattle.formula_rules.proofs.FormulaValues.{tape-meaning}
 
 -- Opcodes by the fields that they use.
 opcode-axis : (a : Axis) → (1 ≤ axisOpcode a) × (axisOpcode a ≤ 3)

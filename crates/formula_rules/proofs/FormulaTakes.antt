@@ -5,18 +5,18 @@ use mathlib.Core.List.{List, [], _∷_}
 use Prim.Native.Nat.{ℕ, zero, suc, _+_, _-_, _*_, _≤_}
 use native.Mathlib.Omega.{arith}
 use borrow.Author.Tests.{le-leb}
-use Rattle.rules.specs.Trees.{Tree, Axis, axisX, axisY, axisZ, binary, unary, negate}
-use Rattle.rules.specs.Formulas.{isDigit, Digits, one, more, count, value, Number, whole, decimal, SumJoin, plus}
-use Rattle.rules.specs.Formulas.{less, ProductJoin, times, over, One, absName, sqrName, rootName, Two, minName}
-use Rattle.rules.specs.Formulas.{maxName, Sum, product, joined, Product, signed, multiplied, Signed, plain, minus}
-use Rattle.rules.specs.Formulas.{Item, constant, variable, bracket, call, pair, Text, spaces, writeDigits}
-use Rattle.rules.specs.Formulas.{writeNumber, sumByte, productByte, writeOne, writeTwo, writeSum, writeProduct}
-use Rattle.rules.specs.Formulas.{writeSigned, writeItem, bytesOf, sumTree, productTree, oneTree, twoTree, treeSum}
-use Rattle.rules.specs.Formulas.{treeProduct, treeSigned, treeItem, treeOf}
-use Rattle.rules.specs.FormulaReader.{Left, none, waits, Level, level, fresh, joinLeft, productTo, sumTo, opened}
-use Rattle.rules.specs.FormulaReader.{called, firstOf, secondOf, Frame, frame, Ended, item, digits, decimals}
-use Rattle.rules.specs.FormulaReader.{endTree, want, named, point, after, State, state, start, Move, no, go}
-use Rattle.rules.specs.FormulaReader.{choose, ofOne, ofTwo, Function, moveIn, move}
+use Rattle.formula_rules.specs.Trees.{Tree, Axis, axisX, axisY, axisZ, binary, unary, negate}
+use Rattle.formula_rules.specs.Formulas.{isDigit, Digits, one, more, count, value, Number, whole, decimal, SumJoin, plus}
+use Rattle.formula_rules.specs.Formulas.{less, ProductJoin, times, over, One, absName, sqrName, rootName, Two, minName}
+use Rattle.formula_rules.specs.Formulas.{maxName, Sum, product, joined, Product, signed, multiplied, Signed, plain, minus}
+use Rattle.formula_rules.specs.Formulas.{Item, constant, variable, bracket, call, pair, Text, spaces, writeDigits}
+use Rattle.formula_rules.specs.Formulas.{writeNumber, sumByte, productByte, writeOne, writeTwo, writeSum, writeProduct}
+use Rattle.formula_rules.specs.Formulas.{writeSigned, writeItem, bytesOf, sumTree, productTree, oneTree, twoTree, treeSum}
+use Rattle.formula_rules.specs.Formulas.{treeProduct, treeSigned, treeItem, treeOf}
+use Rattle.formula_rules.specs.FormulaReader.{Left, none, waits, Level, level, fresh, joinLeft, productTo, sumTo, opened}
+use Rattle.formula_rules.specs.FormulaReader.{called, firstOf, secondOf, Frame, frame, Ended, item, digits, decimals}
+use Rattle.formula_rules.specs.FormulaReader.{endTree, want, named, point, after, State, state, start, Move, no, go}
+use Rattle.formula_rules.specs.FormulaReader.{choose, ofOne, ofTwo, Function, moveIn, move}
 
 -- Where some bytes lead.
 abbrev pub moved : Move → ℕ → Move

@@ -8,14 +8,14 @@ use native.Mathlib.Nat.{add-zero}
 use native.Mathlib.Omega.{arith}
 use lib.Dec.{eqb, leb}
 use lib.ListN.{length, getD, drop}
-use Rattle.rules.specs.Trees.{Tree, unary, binary, negate}
-use Rattle.rules.specs.Formulas.{nestLimit, SumJoin, plus, less, ProductJoin, times, over, sumByte, productByte}
-use Rattle.rules.specs.Formulas.{sumTree, productTree}
-use Rattle.rules.specs.FormulaReader.{Left, none, waits, Level, level, fresh, Frame, want, named, State, state}
-use Rattle.rules.specs.FormulaReader.{go, choose, moveIn, move, answer, Answer, Function}
-use Rattle.rules.specs.FormulaCalls.{atEnd, Blank, SumUpTo, ProductUpTo, ProductRead, SignedRead, ItemRead}
-use Rattle.rules.specs.FormulaCalls.{SumStops, ProductStops, SignedStops, ItemStops}
-use Rattle.rules.proofs.FormulaSteps.{goes-answer, product-ends, sum-ends}
+use Rattle.formula_rules.specs.Trees.{Tree, unary, binary, negate}
+use Rattle.formula_rules.specs.Formulas.{nestLimit, SumJoin, plus, less, ProductJoin, times, over, sumByte, productByte}
+use Rattle.formula_rules.specs.Formulas.{sumTree, productTree}
+use Rattle.formula_rules.specs.FormulaReader.{Left, none, waits, Level, level, fresh, Frame, want, named, State, state}
+use Rattle.formula_rules.specs.FormulaReader.{go, choose, moveIn, move, answer, Answer, Function}
+use Rattle.formula_rules.specs.FormulaCalls.{atEnd, Blank, SumUpTo, ProductUpTo, ProductRead, SignedRead, ItemRead}
+use Rattle.formula_rules.specs.FormulaCalls.{SumStops, ProductStops, SignedStops, ItemStops}
+use Rattle.formula_rules.proofs.FormulaSteps.{goes-answer, product-ends, sum-ends}
 
 -- A byte that is known: the state goes on, no bracket being opened.
 pub known : (text : List ℕ) (n b : ℕ) (s t : State) → n < length text → getD text n 0 ≡ b → move s b ≡ go t

@@ -3,16 +3,16 @@ use mathlib.Core.Path.{_≡_, refl, sym, _∙_, ap}
 use mathlib.Core.Bool.{Bool, true, false}
 use mathlib.Core.List.{List, [], _∷_}
 use Prim.Native.Nat.{ℕ, zero, suc}
-use Rattle.rules.specs.Formulas.{value, Whole, SumJoin, ProductJoin, One, Two, Sum, product, joined, Product}
-use Rattle.rules.specs.Formulas.{signed, multiplied, Signed, plain, minus, Item, spaces, writeDigits, sumByte}
-use Rattle.rules.specs.Formulas.{productByte, writeOne, writeTwo, writeSum, writeProduct, writeSigned, writeItem}
-use Rattle.rules.specs.Formulas.{sumTree, productTree, treeSum, treeProduct, treeSigned, treeItem}
-use Rattle.rules.specs.FormulaReader.{Left, none, waits, Level, level, joinLeft, signTree, productTo, sumTo}
-use Rattle.rules.specs.FormulaReader.{Opener, opened, called, firstOf, secondOf, Frame, frame, Ended, item}
-use Rattle.rules.specs.FormulaReader.{digits, endTree, Mode, want, spelling, named, point, after, State, state}
-use Rattle.rules.specs.FormulaReader.{Spelling, a-, ab-, s-, sq-, r-, ro-, roo-, m-, mi-, ma-, ofOne, ofTwo}
-use Rattle.rules.specs.FormulaReader.{Function}
-use Rattle.rules.proofs.FormulaTakes.{ending, ending-tree}
+use Rattle.formula_rules.specs.Formulas.{value, Whole, SumJoin, ProductJoin, One, Two, Sum, product, joined, Product}
+use Rattle.formula_rules.specs.Formulas.{signed, multiplied, Signed, plain, minus, Item, spaces, writeDigits, sumByte}
+use Rattle.formula_rules.specs.Formulas.{productByte, writeOne, writeTwo, writeSum, writeProduct, writeSigned, writeItem}
+use Rattle.formula_rules.specs.Formulas.{sumTree, productTree, treeSum, treeProduct, treeSigned, treeItem}
+use Rattle.formula_rules.specs.FormulaReader.{Left, none, waits, Level, level, joinLeft, signTree, productTo, sumTo}
+use Rattle.formula_rules.specs.FormulaReader.{Opener, opened, called, firstOf, secondOf, Frame, frame, Ended, item}
+use Rattle.formula_rules.specs.FormulaReader.{digits, endTree, Mode, want, spelling, named, point, after, State, state}
+use Rattle.formula_rules.specs.FormulaReader.{Spelling, a-, ab-, s-, sq-, r-, ro-, roo-, m-, mi-, ma-, ofOne, ofTwo}
+use Rattle.formula_rules.specs.FormulaReader.{Function}
+use Rattle.formula_rules.proofs.FormulaTakes.{ending, ending-tree}
 
 -- What stands left of an item in its bracket.
 pub data SumLeft : Type 0 where

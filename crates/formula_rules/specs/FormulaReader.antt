@@ -6,11 +6,11 @@ use lib.IntN.{pos}
 use Prim.Native.Nat.{ℕ, suc, _+_, _-_, _*_}
 use lib.Dec.{eqb, leb}
 use lib.ListN.{length}
 use Rattle.rules.specs.Values.{pick}
-use Rattle.rules.specs.Trees.{Tree, Binary, number, axis, unary, binary, negate, add, subtract, multiply, divide}
-use Rattle.rules.specs.Trees.{axisX, axisY, axisZ}
-use Rattle.rules.specs.Formulas.{One, absName, sqrName, rootName, Two, minName, maxName, oneTree, twoTree}
-use Rattle.rules.specs.Formulas.{nestLimit, isDigit, wholeUnits, decimalUnits}
+use Rattle.formula_rules.specs.Trees.{Tree, Binary, number, axis, unary, binary, negate, add, subtract, multiply, divide}
+use Rattle.formula_rules.specs.Trees.{axisX, axisY, axisZ}
+use Rattle.formula_rules.specs.Formulas.{One, absName, sqrName, rootName, Two, minName, maxName, oneTree, twoTree}
+use Rattle.formula_rules.specs.Formulas.{nestLimit, isDigit, wholeUnits, decimalUnits}
 
 -- What waits inside one bracket, left of the item that comes: a sum with its join, a product with its join, a minus.
 pub data Left : Type 0 where

@@ -9,20 +9,20 @@ use native.Mathlib.Omega.{arith}
 use lib.Dec.{eqb, leb}
 use lib.ListN.{length, getD, drop}
 use borrow.Author.Tests.{lt-leb, le-leb, leb-true, ne-eqb}
-use Rattle.rules.specs.Trees.{Tree, Axis, axisX, axisY, axisZ, number, axis, unary, binary}
-use Rattle.rules.specs.Formulas.{nestLimit, isDigit, axisByte, One, Two, oneTree, twoTree, wholeUnits}
-use Rattle.rules.specs.Formulas.{decimalUnits}
-use Rattle.rules.specs.FormulaReader.{Level, fresh, Frame, frame, Opener, opened, called, firstOf, secondOf}
-use Rattle.rules.specs.FormulaReader.{digits, decimals, Mode, want, named, point, after, state, no, go, Function}
-use Rattle.rules.specs.FormulaReader.{choose, push, openerOf, closeRow, moveIn, Answer, done, breaks, deep, endIn}
-use Rattle.rules.specs.FormulaReader.{answer, reader}
-use Rattle.rules.specs.FormulaCalls.{atEnd, Blank, SumRead, Unsigned, ItemRead, ModeRead, OpenRead, SumStops}
-use Rattle.rules.specs.FormulaCalls.{ItemStops}
+use Rattle.formula_rules.specs.Trees.{Tree, Axis, axisX, axisY, axisZ, number, axis, unary, binary}
+use Rattle.formula_rules.specs.Formulas.{nestLimit, isDigit, axisByte, One, Two, oneTree, twoTree, wholeUnits}
+use Rattle.formula_rules.specs.Formulas.{decimalUnits}
+use Rattle.formula_rules.specs.FormulaReader.{Level, fresh, Frame, frame, Opener, opened, called, firstOf, secondOf}
+use Rattle.formula_rules.specs.FormulaReader.{digits, decimals, Mode, want, named, point, after, state, no, go, Function}
+use Rattle.formula_rules.specs.FormulaReader.{choose, push, openerOf, closeRow, moveIn, Answer, done, breaks, deep, endIn}
+use Rattle.formula_rules.specs.FormulaReader.{answer, reader}
+use Rattle.formula_rules.specs.FormulaCalls.{atEnd, Blank, SumRead, Unsigned, ItemRead, ModeRead, OpenRead, SumStops}
+use Rattle.formula_rules.specs.FormulaCalls.{ItemStops}
 use Rattle.rules.proofs.Tests.{and-left}
-use Rattle.rules.proofs.FormulaTakes.{first-digit, next-digit, first-decimal, next-decimal}
-use Rattle.rules.proofs.FormulaSteps.{goes-answer, breaks-answer, deep-answer, end-answer, digits-end}
-use Rattle.rules.proofs.FormulaSteps.{decimals-end, fitsWhole, NoJoin, no-close, no-end}
-use Rattle.rules.proofs.FormulaCalls.{known, named-blank}
+use Rattle.formula_rules.proofs.FormulaTakes.{first-digit, next-digit, first-decimal, next-decimal}
+use Rattle.formula_rules.proofs.FormulaSteps.{goes-answer, breaks-answer, deep-answer, end-answer, digits-end}
+use Rattle.formula_rules.proofs.FormulaSteps.{decimals-end, fitsWhole, NoJoin, no-close, no-end}
+use Rattle.formula_rules.proofs.FormulaCalls.{known, named-blank}
 
 -- Letters, a name, digits: one byte after the other.
 not-open : (b : ℕ) → eqb b 40 ≡ false → (k : List Frame) → (eqb b 40 && leb nestLimit (length k)) ≡ false

@@ -6,9 +6,9 @@ use lib.IntN.{pos}
 use Prim.Native.Nat.{ℕ, zero, suc, _+_, _-_, _*_, _/_, _^_, _≤_, _<_, max}
 use lib.Dec.{eqb, leb}
 use lib.ListN.{length, getD, take}
 use Rattle.rules.specs.Values.{pick}
-use Rattle.rules.specs.Trees.{Unary, abs, sqr, root, negate, Axis, axisX, axisY, axisZ, Tree, number, axis, unary}
-use Rattle.rules.specs.Trees.{Binary, add, subtract, multiply, divide, minimum, maximum, binary}
+use Rattle.formula_rules.specs.Trees.{Unary, abs, sqr, root, negate, Axis, axisX, axisY, axisZ, Tree, number, axis, unary}
+use Rattle.formula_rules.specs.Trees.{Binary, add, subtract, multiply, divide, minimum, maximum, binary}
 
 -- "18 when a bracket, a function's too, opens inside 32 others."
 abbrev pub nestLimit : ℕ

@@ -10,14 +10,14 @@ use lib.Dec.{eqb, leb, ltb}
 use lib.ListN.{length, getD, drop}
 use lib.Seq.{drop-cons, drop-length}
 use borrow.Author.Tests.{ne-eqb, ltb-true, ltb-false}
 use Rattle.rules.specs.Values.{pick}
-use Rattle.rules.specs.Trees.{Tree}
-use Rattle.rules.specs.Formulas.{isDigit}
-use Rattle.rules.specs.FormulaReader.{Left, none, Level, level, fresh, joinLeft, productTo, Frame, Ended, item}
-use Rattle.rules.specs.FormulaReader.{digits, decimals, endTree, want, named, after, State, state, Move, no, go}
-use Rattle.rules.specs.FormulaReader.{Function, choose, closeRow, closeRows, moveIn, move, Answer, breaks, deep}
-use Rattle.rules.specs.FormulaReader.{endIn, tooDeep, onward, answer, whenFits}
-use Rattle.rules.proofs.FormulaTakes.{ended}
+use Rattle.formula_rules.specs.Trees.{Tree}
+use Rattle.formula_rules.specs.Formulas.{isDigit}
+use Rattle.formula_rules.specs.FormulaReader.{Left, none, Level, level, fresh, joinLeft, productTo, Frame, Ended, item}
+use Rattle.formula_rules.specs.FormulaReader.{digits, decimals, endTree, want, named, after, State, state, Move, no, go}
+use Rattle.formula_rules.specs.FormulaReader.{Function, choose, closeRow, closeRows, moveIn, move, Answer, breaks, deep}
+use Rattle.formula_rules.specs.FormulaReader.{endIn, tooDeep, onward, answer, whenFits}
+use Rattle.formula_rules.proofs.FormulaTakes.{ended}
 
 -- At a byte of the text; at its end.
 pub byte-answer : (text : List ℕ) (n : ℕ) (s : State) → n < length text

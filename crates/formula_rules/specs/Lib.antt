@@ -1,0 +1,8 @@
+-- What a formula means (Trees), its grammar (Formulas), the reader of its text (FormulaReader, FormulaCalls,
+-- FormulaDepths) and its tape (FormulaTapes).
+pub mod Trees
+pub mod Formulas
+pub mod FormulaReader
+pub mod FormulaCalls
+pub mod FormulaTapes
+pub mod FormulaDepths
