@@ -2,8 +2,7 @@
 use mathlib.Core.Path.{_≡_, refl, sym, ap, subst, _∙_}
 use mathlib.Core.Bool.{true}
 use mathlib.Core.List.{List}
-use Prim.Native.Nat.{ℕ, _-_, _*_, _≤_, _<_}
-use native.Mathlib.Nat.{mul-comm}
+use Prim.Native.Nat.{ℕ, _-_, _≤_, _<_}
 use native.Mathlib.Omega.{arith}
 use lib.IntN.{ℤ}
 use lib.ListN.{length, take, drop}
@@ -16,7 +15,6 @@ use Rattle.rules.proofs.Order.{Holds, HoldsBox, at-rises}
 use Rattle.rules.proofs.Runs.{good-accepted}
 use Rattle.rules.proofs.Grids.{Axis, axis-value, accepted-sound}
 use Rattle.rules.proofs.Slopes.{short-slopes}
-use Rattle.rules.proofs.SlopePixels.{slopes-shown}
 use Rattle.code.specs.Words.{tapeIn}
 use Rattle.code.specs.Runs.{EndsOk, Bounded}
 use Rattle.shortening.specs.Kept.{Cut}
@@ -31,7 +29,7 @@ use Rattle.walk.proofs.CellLaws.{kind}
 use Rattle.walk.proofs.LookLaws.{fit-of, lent-words}
 use Rattle.shading.specs.declared.block.Block.{Block}
 use Rattle.shading.specs.declared.block.Layers.{Layers}
-use Rattle.shading.specs.Shades.{Fits, blockAt, BlockIn, Within, Shading, Shaded, Covers, LayersIn, boxAt}
+use Rattle.shading.specs.Shades.{BlockIn, Within, Shading, LayersIn, boxAt}
 use Rattle.shading.specs.Shades.{BlockBox, Narrowed}
 
 -- A sample lies between the first and the last one of a span of its axis.
@@ -119,36 +117,20 @@ module _ {whole ws : List ℕ} {grid : Grid} {c : Block} {l : Layers} {next ps :
         kept = n .kept;
       })
 
-  shading-short : {h : List ℕ} {b b′ : List ℤ} {before : Layers} → Covers grid h c before l
-      → Shading (drop start next) grid h c c b b′ → Shading ws grid h c c b b′
-  shading-short v s =
+  shading-short : {h : List ℕ} {b b′ : List ℤ} → Shading (drop start next) grid h l c c b b′
+      → Shading ws grid h l c c b b′
+  shading-short s =
       record {
         shades = λ t a. s .shades t
             (record {
               slots = a .slots;
               accepted = n .accepted (a .slots) (a .accepted);
-              same = λ i j k w e.
-                  n .same (a .slots) (a .accepted) i j k w (v .all i j k w e .0) (v .all i j k w e .1)
-                  ∙ a .same i j k w e;
+              same = λ i j k w v e.
+                  n .same (a .slots) (a .accepted) i j k w (omega (arith, v .above, e)) (omega (arith, v .most, e))
+                  ∙ a .same i j k w v e;
             });
       }
 
-  pub shading-narrowed : {h : List ℕ} {b b′ : List ℤ} {before : Layers} → Covers grid h c before l
-      → Shading (take (length next - start) (drop start next)) grid h c c b b′ → Shading ws grid h c c b b′
-  shading-narrowed v s = shading-short v (rw (lent-words start next) at s)
-
--- All pixels of the grid: the list is the picture's slopes.
-pub all-shaded : {ws : List ℕ} {grid : Grid} {h : List ℕ} {b b′ : List ℤ} → Fits grid h b → length b′ ≡ length b
-    → Shading ws grid h (blockAt 0 (grid .width) 0 (grid .height)) (blockAt 0 (grid .width) 0 (grid .height)) b b′
-    → Shaded ws grid h b′
-all-shaded {ws} {grid} {h} {b} {b′} f e s =
-    record {
-      slopes = λ n a. slopes-shown (tapeIn n ws) (gridIn grid true) h b′
-          (record {
-            size = e ∙ f .slopes ∙ ap (λ (m : ℕ). 3 * m) (mul-comm (grid .width) (grid .height));
-            pixel = λ i j k l.
-                s .shades (tapeIn n ws) (record { slots = n; accepted = a; same = λ p q m w x. refl }) .done i j
-                (record { x-from = omega arith; x-to = k; y-from = omega arith; y-to = l })
-                .three;
-          });
-    }
+  pub shading-narrowed : {h : List ℕ} {b b′ : List ℤ}
+      → Shading (take (length next - start) (drop start next)) grid h l c c b b′ → Shading ws grid h l c c b b′
+  shading-narrowed s = shading-short (rw (lent-words start next) at s)

@@ -60,39 +60,49 @@ pub record Right (t : Tape) (grid : Grid) (h : List ℕ) (b : List ℤ) (i j : �
   pub three : threeAt b (j * grid .width + i)
       ≡ pixelSlopes t (gridIn grid true) i j (getD h (j * grid .width + i) 0)
 
--- Every pixel that was right is so, and each pixel of the block c is.
-pub record Shades (t : Tape) (grid : Grid) (h : List ℕ) (c : Block) (b b′ : List ℤ) : Type 0 where
-  pub kept : (i j : ℕ) → i < grid .width → j < grid .height → Right t grid h b i j → Right t grid h b′ i j
-  pub done : (i j : ℕ) → Within c i j → Right t grid h b′ i j
+-- The height of the pixel (i, j) lies in the window l; and the window of all heights but 0.
+pub record Seen (grid : Grid) (h : List ℕ) (l : Layers) (i j : ℕ) : Type 0 where
+  pub above : l .from < getD h (j * grid .width + i) 0
+  pub most : getD h (j * grid .width + i) 0 ≤ l .end
 
--- The words ws are an accepted tape, and have the slopes of the tape t at the visible samples of the block c.
-pub record Alike (t : Tape) (ws : List ℕ) (grid : Grid) (h : List ℕ) (c : Block) : Type 0 where
+abbrev pub layersAt : ℕ → ℕ → Layers
+layersAt from end = record { from = from; end = end }
+
+abbrev pub allOf : Grid → Layers
+allOf grid = layersAt 0 (grid .depth)
+
+-- Every pixel that was right is so, and each pixel of the block c with its height in the window l is.
+pub record Shades (t : Tape) (grid : Grid) (h : List ℕ) (l : Layers) (c : Block) (b b′ : List ℤ) : Type 0 where
+  pub kept : (i j : ℕ) → i < grid .width → j < grid .height → Right t grid h b i j → Right t grid h b′ i j
+  pub done : (i j : ℕ) → Within c i j → Seen grid h l i j → Right t grid h b′ i j
+
+-- The words ws are an accepted tape, and have the slopes of the tape t at the visible samples of the block c in the
+-- window l.
+pub record Alike (t : Tape) (ws : List ℕ) (grid : Grid) (h : List ℕ) (l : Layers) (c : Block) : Type 0 where
   pub slots : ℕ
   pub accepted : Accepted (tapeIn slots ws)
-  pub same : (i j k : ℕ) → Within c i j → getD h (j * grid .width + i) 0 ≡ suc k
+  pub same : (i j k : ℕ) → Within c i j → Seen grid h l i j → getD h (j * grid .width + i) 0 ≡ suc k
       → slopesAt (tapeIn slots ws) (sampleAt (gridIn grid true) i j k) ≡ slopesAt t (sampleAt (gridIn grid true) i j k)
 
--- The part d of the block c is shaded with the words, for whatever tape they stand in the block.
-pub record Shading (ws : List ℕ) (grid : Grid) (h : List ℕ) (c d : Block) (b b′ : List ℤ) : Type 0 where
-  pub shades : (t : Tape) → Alike t ws grid h c → Shades t grid h d b b′
+-- The part d of the block c is shaded in the window with the words, for whatever tape they stand in the block.
+pub record Shading (ws : List ℕ) (grid : Grid) (h : List ℕ) (l : Layers) (c d : Block) (b b′ : List ℤ) : Type 0 where
+  pub shades : (t : Tape) → Alike t ws grid h l c → Shades t grid h l d b b′
 
 -- All of the list, by the slopes of the words' tape.
 pub record Shaded (ws : List ℕ) (grid : Grid) (h : List ℕ) (b′ : List ℤ) : Type 0 where
   pub slopes : (n : ℕ) → Accepted (tapeIn n ws) → b′ ≡ slopesOf (tapeIn n ws) (gridIn grid true) h
 
--- The layers r have those before it and the visible sample of each pixel of the block c.
-pub record Covers (grid : Grid) (h : List ℕ) (c : Block) (before r : Layers) : Type 0 where
-  pub low : r .from ≤ before .from
-  pub high : before .end ≤ r .end
-  pub most : r .end ≤ grid .depth
-  pub all : (i j k : ℕ) → Within c i j → getD h (j * grid .width + i) 0 ≡ suc k → (r .from ≤ k) × (k < r .end)
+-- r is a bound of the block's heights that are not above the bound m, and not above m itself; nor below what it was.
+pub record Tops (grid : Grid) (h : List ℕ) (c : Block) (m before r : ℕ) : Type 0 where
+  pub low : before ≤ r
+  pub most : r ≤ m
+  pub all : (i j : ℕ) → Within c i j → getD h (j * grid .width + i) 0 ≤ m → getD h (j * grid .width + i) 0 ≤ r
 
 -- The same of one height v.
-pub record Joined (v : ℕ) (before r : Layers) : Type 0 where
-  pub low : r .from ≤ before .from
-  pub high : before .end ≤ r .end
-  pub most : (d : ℕ) → before .end ≤ d → v ≤ d → r .end ≤ d
-  pub all : (k : ℕ) → v ≡ suc k → (r .from ≤ k) × (k < r .end)
+pub record Joined (v m before r : ℕ) : Type 0 where
+  pub low : before ≤ r
+  pub most : before ≤ m → r ≤ m
+  pub all : v ≤ m → v ≤ r
 
 -- Layers of the grid, and the box of a block's samples in them.
 pub record LayersIn (grid : Grid) (l : Layers) : Type 0 where

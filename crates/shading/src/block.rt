@@ -1,10 +1,7 @@
-// A block of pixels, and the layers of its visible samples.
+// A block of pixels, and the greatest of its heights up to a bound.
 use picture::grid::Grid;
-use walk::cell::lesser;
-ghost use mathlib.Core.Path.{_≡_};
-ghost use Prim.Native.Nat.{_*_, _≤_, _<_};
-ghost use lib.ListN.{length, getD};
-ghost use Rattle.shading.specs.Shades.{BlockIn, rowOf, Heights, Covers, Joined};
+ghost use Prim.Native.Nat.{_≤_, _<_};
+ghost use Rattle.shading.specs.Shades.{BlockIn, rowOf, Heights, Tops, Joined};
 
 // First index and past the last one on both axes.
 pub struct Block {
@@ -14,56 +11,51 @@ pub struct Block {
     pub yend: u32,
 }
 
-// First z index and past the last one; none if the first is not below the end.
+// Heights above `from` and up to `end`: the visible samples of their pixels have the z indices from the first number
+// and below the second.
 pub struct Layers {
     pub from: u32,
     pub end: u32,
 }
 
-// With the visible sample of one more height.
-fn join(seen: Layers, height: u16) -> Layers
-    ensures { λ r. ⌜ Joined height seen r ⌝ }
+// With one more height, if it is not above the bound.
+fn join(known: u32, height: u16, bound: u32) -> u32
+    ensures { λ r. ⌜ Joined height bound known r ⌝ }
 {
-    if height == 0 {
-        return seen;
+    let v = height as u32;
+    if bound < v {
+        return known;
     }
-    let end = height as u32;
-    Layers {
-        from: lesser(seen.from, end - 1),
-        end: if seen.end < end { end } else { seen.end },
-    }
+    if known < v { v } else { known }
 }
 
-fn visible_row(picture: &[u16], grid: Grid, block: Block, y: u32, known: Layers) -> Layers
+fn top_row(picture: &[u16], grid: Grid, block: Block, y: u32, bound: u32, known: u32) -> u32
     requires { ⌜ Heights grid (now picture) ⌝ }
     requires { ⌜ BlockIn grid block ⌝ }
-    requires { ⌜ (block .y ≤ y) × (y < block .yend) × (known .end ≤ grid .depth) ⌝ }
-    ensures { λ r. ⌜ Covers grid (now (picture .entry)) (rowOf block y) known r ⌝ }
+    requires { ⌜ (block .y ≤ y) × (y < block .yend) × (known ≤ bound) ⌝ }
+    ensures { λ r. ⌜ Tops grid (now (picture .entry)) (rowOf block y) bound known r ⌝ }
 {
-    let mut seen = known;
+    let mut top = known;
     let mut x = block.x;
     while x < block.xend {
         let at = (y * grid.width + x) as usize;
-        seen = join(seen, picture[at]);
+        top = join(top, picture[at], bound);
         x += 1;
     }
-    seen
+    top
 }
 
-// The layers that the visible samples of a block lie in.
-pub fn visible(picture: &[u16], grid: Grid, block: Block) -> Layers
+// The greatest height of a block that is not above the bound, or 0.
+pub fn top_in(picture: &[u16], grid: Grid, block: Block, bound: u32) -> u32
     requires { ⌜ Heights grid (now picture) ⌝ }
     requires { ⌜ BlockIn grid block ⌝ }
-    ensures { λ r. ⌜ Covers grid (now (picture .entry)) block (record { from = grid .depth; end = 0 }) r ⌝ }
+    ensures { λ r. ⌜ Tops grid (now (picture .entry)) block bound 0 r ⌝ }
 {
-    let mut seen = Layers {
-        from: grid.depth,
-        end: 0,
-    };
+    let mut top = 0;
     let mut y = block.y;
     while y < block.yend {
-        seen = visible_row(picture, grid, block, y, seen);
+        top = top_row(picture, grid, block, y, bound, top);
         y += 1;
     }
-    seen
+    top
 }

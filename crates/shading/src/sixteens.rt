@@ -1,19 +1,81 @@
-// Side 16: blocks of side 16 of the picture, each with the short tape that its blocks of side 4 start from; and the
-// whole picture.
+// Side 16: blocks of side 16 of the picture, with a short tape for each window of layers that the blocks of side 4 start
+// from; and the whole picture.
 use crate::block::Block;
-use crate::block::visible;
+use crate::block::Layers;
+use crate::block::top_in;
 use crate::fours::four_rows;
 use crate::narrow::narrow;
-use crate::pixels::shade_rows;
+use crate::pixels::clear;
 use picture::grid::Grid;
 use shortening::expand::whole_places;
+use tape::SLOT_LIMIT;
 use walk::cell::lesser;
 ghost use mathlib.Core.Path.{_≡_};
 ghost use Prim.Native.Nat.{_≤_};
 ghost use lib.ListN.{length};
+ghost use Rattle.rules.specs.Tapes.{slotLimit};
 ghost use Rattle.walk.specs.Walks.{Sound, Level, MarksFit};
-ghost use Rattle.shading.specs.Shades.{Fits, BlockIn, Shading, Shaded};
+ghost use Rattle.shading.specs.Shades.{Fits, allOf, BlockIn, LayersIn, Shading, Shaded};
 
+// The pixels of a block whose heights lie in a window.
+fn shade_window(
+    whole: &[u64],
+    places: &[u16],
+    grid: Grid,
+    block: Block,
+    window: Layers,
+    picture: &[u16],
+    slopes: &mut [i32],
+    work: &mut [u8],
+    first: &mut [u64],
+    firstplaces: &mut [u16],
+    second: &mut [u64],
+    secondplaces: &mut [u16],
+    slots: &mut [[i32; 4]; SLOT_LIMIT],
+)
+    requires { ⌜ Level (now whole) (now whole) (now places) ⌝ }
+    requires { ⌜ Fits grid (now picture) (now slopes) ⌝ }
+    requires { ⌜ BlockIn grid block ⌝ }
+    requires { ⌜ MarksFit 2 (now whole) (now work)
+        × (length (now whole) ≤ length (now first)) × (length (now firstplaces) ≡ length (now first))
+        × (length (now whole) ≤ length (now second)) × (length (now secondplaces) ≡ length (now second)) ⌝ }
+    requires { ⌜ LayersIn grid window ⌝ }
+    requires { ⌜ length (now slots) ≡ slotLimit ⌝ }
+    ensures { λ _. ⌜ Shading (now (whole .entry)) grid (now (picture .entry)) window block block
+        (now (slopes .entry)) (now (slopes .exit)) ⌝ }
+    ensures { λ _. ⌜ length (now (slots .exit)) ≡ slotLimit ⌝ }
+{
+    let start = narrow(
+        whole,
+        whole,
+        places,
+        grid,
+        block,
+        window,
+        work,
+        whole.len(),
+        first,
+        firstplaces,
+    );
+    let short = &first[start..];
+    let shortplaces = &firstplaces[start..];
+    four_rows(
+        whole,
+        short,
+        shortplaces,
+        grid,
+        block,
+        window,
+        picture,
+        slopes,
+        work,
+        second,
+        secondplaces,
+        slots,
+    );
+}
+
+// Windows of 16 layers, from the greatest height down: heights that no pixel has are passed over.
 fn visit_sixteen(
     whole: &[u64],
     places: &[u16],
@@ -26,6 +88,7 @@ fn visit_sixteen(
     firstplaces: &mut [u16],
     second: &mut [u64],
     secondplaces: &mut [u16],
+    slots: &mut [[i32; 4]; SLOT_LIMIT],
 )
     requires { ⌜ Level (now whole) (now whole) (now places) ⌝ }
     requires { ⌜ Fits grid (now picture) (now slopes) ⌝ }
@@ -33,40 +96,35 @@ fn visit_sixteen(
     requires { ⌜ MarksFit 2 (now whole) (now work)
         × (length (now whole) ≤ length (now first)) × (length (now firstplaces) ≡ length (now first))
         × (length (now whole) ≤ length (now second)) × (length (now secondplaces) ≡ length (now second)) ⌝ }
-    ensures { λ _. ⌜ Shading (now (whole .entry)) grid (now (picture .entry)) block block
+    requires { ⌜ length (now slots) ≡ slotLimit ⌝ }
+    ensures { λ _. ⌜ Shading (now (whole .entry)) grid (now (picture .entry)) (allOf grid) block block
         (now (slopes .entry)) (now (slopes .exit)) ⌝ }
+    ensures { λ _. ⌜ length (now (slots .exit)) ≡ slotLimit ⌝ }
 {
-    let seen = visible(picture, grid, block);
-    if seen.from < seen.end {
-        let start = narrow(
-            whole,
+    let mut top = top_in(picture, grid, block, grid.depth);
+    while 0 < top {
+        let from = top - lesser(top, 16);
+        let window = Layers {
+            from: from,
+            end: top,
+        };
+        shade_window(
             whole,
             places,
             grid,
             block,
-            seen,
-            work,
-            whole.len(),
-            first,
-            firstplaces,
-        );
-        let short = &first[start..];
-        let shortplaces = &firstplaces[start..];
-        four_rows(
-            whole,
-            short,
-            shortplaces,
-            grid,
-            block,
+            window,
             picture,
             slopes,
             work,
+            first,
+            firstplaces,
             second,
             secondplaces,
+            slots,
         );
-        return;
+        top = top_in(picture, grid, block, from);
     }
-    shade_rows(whole, grid, picture, slopes, block);
 }
 
 // One row of blocks, as high as they are.
@@ -82,6 +140,7 @@ fn sixteen_row(
     firstplaces: &mut [u16],
     second: &mut [u64],
     secondplaces: &mut [u16],
+    slots: &mut [[i32; 4]; SLOT_LIMIT],
 )
     requires { ⌜ Level (now whole) (now whole) (now places) ⌝ }
     requires { ⌜ Fits grid (now picture) (now slopes) ⌝ }
@@ -89,8 +148,10 @@ fn sixteen_row(
     requires { ⌜ MarksFit 2 (now whole) (now work)
         × (length (now whole) ≤ length (now first)) × (length (now firstplaces) ≡ length (now first))
         × (length (now whole) ≤ length (now second)) × (length (now secondplaces) ≡ length (now second)) ⌝ }
-    ensures { λ _. ⌜ Shading (now (whole .entry)) grid (now (picture .entry)) row row
+    requires { ⌜ length (now slots) ≡ slotLimit ⌝ }
+    ensures { λ _. ⌜ Shading (now (whole .entry)) grid (now (picture .entry)) (allOf grid) row row
         (now (slopes .entry)) (now (slopes .exit)) ⌝ }
+    ensures { λ _. ⌜ length (now (slots .exit)) ≡ slotLimit ⌝ }
 {
     let mut x = row.x;
     while x < row.xend {
@@ -113,6 +174,7 @@ fn sixteen_row(
             firstplaces,
             second,
             secondplaces,
+            slots,
         );
         x = xend;
     }
@@ -130,6 +192,7 @@ fn sixteen_rows(
     firstplaces: &mut [u16],
     second: &mut [u64],
     secondplaces: &mut [u16],
+    slots: &mut [[i32; 4]; SLOT_LIMIT],
 )
     requires { ⌜ Level (now whole) (now whole) (now places) ⌝ }
     requires { ⌜ Fits grid (now picture) (now slopes) ⌝ }
@@ -137,8 +200,10 @@ fn sixteen_rows(
     requires { ⌜ MarksFit 2 (now whole) (now work)
         × (length (now whole) ≤ length (now first)) × (length (now firstplaces) ≡ length (now first))
         × (length (now whole) ≤ length (now second)) × (length (now secondplaces) ≡ length (now second)) ⌝ }
-    ensures { λ _. ⌜ Shading (now (whole .entry)) grid (now (picture .entry)) block block
+    requires { ⌜ length (now slots) ≡ slotLimit ⌝ }
+    ensures { λ _. ⌜ Shading (now (whole .entry)) grid (now (picture .entry)) (allOf grid) block block
         (now (slopes .entry)) (now (slopes .exit)) ⌝ }
+    ensures { λ _. ⌜ length (now (slots .exit)) ≡ slotLimit ⌝ }
 {
     let mut y = block.y;
     while y < block.yend {
@@ -161,6 +226,7 @@ fn sixteen_rows(
             firstplaces,
             second,
             secondplaces,
+            slots,
         );
         y = yend;
     }
@@ -189,6 +255,8 @@ pub fn shade(
 {
     let n = whole.len();
     whole_places(places, n);
+    clear(slopes);
+    let mut slots = [[0i32; 4]; SLOT_LIMIT];
     let all = Block {
         x: 0,
         xend: grid.width,
@@ -207,5 +275,6 @@ pub fn shade(
         firstplaces,
         second,
         secondplaces,
+        &mut slots,
     );
 }

@@ -4,6 +4,7 @@ use mathlib.Core.Bool.{true}
 use Prim.Native.Nat.{_-_}
 use native.Mathlib.Omega.{arith}
 use lib.ListN.{length}
+use Rattle.rules.specs.Tapes.{slotLimit}
 use Rattle.walk.specs.Cells.{Ends}
 use Rattle.walk.proofs.CellLaws.{small, ends}
 use Rattle.shading.proofs.ShadeLaws.{rows-in, fits-again, AtRow, rows-begin, rows-next, rows-done}
@@ -12,14 +13,15 @@ use Rattle.shading.proofs.fours.four_rows.Statement.{statement}
 use Rattle.shading.proofs.fours.four_rows.Tie as tie
 
 abbrev Inv-loop : tie.InvT-loop
-Inv-loop whole code places grid block picture slopes₀ work₀ second₀ secondplaces₀ y₀ slopes work second secondplaces y =
-    AtRow code grid picture block slopes₀ slopes y
+Inv-loop whole code places grid block window picture slopes₀ work₀ second₀ secondplaces₀ slots₀ y₀ slopes work second secondplaces slots y =
+    AtRow code grid picture window block slopes₀ slopes y
     × (length work ≡ length work₀)
     × (length second ≡ length second₀)
     × (length secondplaces ≡ length secondplaces₀)
+    × (length slots ≡ slotLimit)
 
 abbrev μ-loop : tie.MeasureT-loop
-μ-loop whole code places grid block picture slopes₀ work₀ second₀ secondplaces₀ y₀ slopes work second secondplaces y = block .yend - y
+μ-loop whole code places grid block window picture slopes₀ work₀ second₀ secondplaces₀ slots₀ y₀ slopes work second secondplaces slots y = block .yend - y
 
 -- The places: the start, the loop, a turn of it, the end of its part, after the call, and past the loop.
 abbrev begun : tie.After-slice-known3 Inv-loop μ-loop → tie.Start Inv-loop μ-loop
@@ -31,8 +33,8 @@ start c = begun (c .before)
 abbrev at-test : tie.Then1 Inv-loop μ-loop → tie.At-loop Inv-loop μ-loop
 at-test c = c .before .before
 
-abbrev ended : tie.After-four-row-arg4 Inv-loop μ-loop → tie.After-lesser Inv-loop μ-loop
-ended c = c .before .before .before .before
+abbrev ended : tie.After-four-row-arg5 Inv-loop μ-loop → tie.After-lesser Inv-loop μ-loop
+ended c = c .before .before .before .before .before
 
 abbrev called : tie.After-slice-known6 Inv-loop μ-loop → tie.After-four-row Inv-loop μ-loop
 called c = c .before .before .before .before .before .before .before
@@ -46,7 +48,7 @@ part : (c : tie.After-lesser Inv-loop μ-loop)
 part c = ends _ _ 4 _ (c .lesser .ensures) (c .before .if1 .taken) (omega arith)
 
 loop-holds : tie.Need-loop-holds Inv-loop μ-loop
-loop-holds c = (rows-begin (begun c .pre .1 .1 .0) _, refl, refl, refl)
+loop-holds c = (rows-begin (begun c .pre .1 .1 .0) _, refl, refl, refl, begun c .pre .1 .1 .1 .1 .1)
 
 add-lesser : tie.Need-add-lesser Inv-loop μ-loop
 add-lesser c =
@@ -64,9 +66,20 @@ four-row-requires c κs =
     let i = l .loop .inv in
     let s = start l in
     let p = s .pre .1 in
-    let r = p .1 .1 in
-    let b = rows-in (l .loop .y) (e .lesser .result) (p .1 .0) (part e .some) (part e .in-grid) in
-    (s .pre .0, (fits-again (p .0) (i .0 .size), (b, (omega (arith, i .1, r .0), omega (arith, i .2, r .1), omega (arith, i .3, i .2, r .2)))))
+    let r = p .1 .1 .0 in
+    let b = rows-in (l .loop .y) (e .lesser .result) (p .1 .0) (part e .some) (part e .in-grid) in (
+      s .pre .0,
+      (
+        fits-again (p .0) (i .0 .size),
+        (
+          b,
+          (
+            (omega (arith, i .1, r .0), omega (arith, i .2, r .1), omega (arith, i .3, i .2, r .2)),
+            (p .1 .1 .1 .0, i .4),
+          ),
+        ),
+      ),
+    )
 
 loop-less : tie.Need-loop-less Inv-loop μ-loop
 loop-less c = let e = ended (called c .before) in omega (arith, part e .some, e .before .if1 .taken)
@@ -77,12 +90,13 @@ loop-again c =
     let e = ended (called c .before) in
     let l = at-test (e .before) in
     let i = l .loop .inv in
-    let kept = v .kept .1 .1 .1 .1 .1 .1 in (
+    let kept = v .kept .1 .1 .1 .1 .1 .1 .1 in (
       rows-next (start l .pre .1 .1 .0) (e .lesser .result) (i .0) (omega (arith, part e .some)) (part e .in-grid)
-          (v .ensures) (kept .0),
+          (v .ensures .0) (kept .0),
       kept .1 .0 ∙ i .1,
       kept .1 .1 .0 ∙ i .2,
       kept .1 .1 .1 .0 ∙ i .3,
+      v .ensures .1,
     )
 
 same-length : tie.Need-same-length Inv-loop μ-loop
@@ -98,7 +112,7 @@ same-length-4 : tie.Need-same-length-4 Inv-loop μ-loop
 same-length-4 c = past c .loop .inv .3
 
 returns : tie.Need-returns Inv-loop μ-loop
-returns c = rows-done (past c .loop .inv .0) (omega (arith, c .if1 .left))
+returns c = let i = past c .loop .inv in (rows-done (i .0) (omega (arith, c .if1 .left)), i .4)
 
 pub four-rows-spec : {M : Type 1} → statement M
 four-rows-spec =

@@ -1,4 +1,4 @@
--- Three zeros at height 0, or the slopes at the visible sample.
+-- Left alone outside the window, or the slopes at the visible sample.
 use mathlib.Core.Path.{_≡_, refl, subst, _∙_}
 use mathlib.Core.Bool.{true}
 use Prim.Native.Nat.{_+_, _-_, _*_, _<_, _≤_}
@@ -14,8 +14,9 @@ use Rattle.picture.proofs.GridWords.{InWords, in-words, value-fits}
 use Rattle.slopes.specs.Shapes.{Sloping}
 use Rattle.walk.proofs.CellLaws.{small}
 use Rattle.walk.proofs.LookLaws.{sound-runs}
+use Rattle.shading.specs.Shades.{Seen}
 use Rattle.shading.proofs.ShadeLaws.{put-words, pixel-in, three-in, pixel-most, at-words, sample-same}
-use Rattle.shading.proofs.ShadeLaws.{sample-ok, blank-shaded, sample-shaded}
+use Rattle.shading.proofs.ShadeLaws.{sample-ok, pixel-low, pixel-high, sample-shaded}
 use borrow.Author.Needs.{needs}
 use Rattle.shading.proofs.pixels.shade_pixel.Statement.{statement}
 use Rattle.shading.proofs.pixels.shade_pixel.Tie as tie
@@ -27,8 +28,11 @@ begun c = c .before .before .before
 abbrev at-test : tie.After-shared-slice-known3 → tie.Start
 at-test c = begun (c .before)
 
+abbrev tested : tie.After-struct-told → tie.Else1
+tested c = c .before .before .before
+
 abbrev seen : tie.After-struct-told → tie.Start
-seen c = at-test (c .before .before)
+seen c = at-test (tested c .before .before)
 
 abbrev to-y : tie.After-struct-told4 → tie.After-struct-told
 to-y c = c .before .before .before .before
@@ -46,7 +50,12 @@ ran c = c .before .before .before .before
 told : (c : tie.After-struct-told) → InWords (seen c .args .grid)
 told c = in-words (c .struct-told .given)
 
--- The height is not 0, and at most the depth.
+-- The height lies in the window: it is not 0, and at most the depth.
+in-window : (c : tie.After-struct-told)
+    → (let a = seen c .args in Seen (a .grid) (a .picture .now) (a .window) (a .x) (a .y))
+in-window c =
+    record { above = omega (arith, tested c .if1 .left); most = omega (arith, c .before .if2 .left) }
+
 high : (c : tie.After-struct-told)
     → (let a = seen c .args in
     let h = getD (a .picture .now) (a .y * a .grid .width + a .x) 0 in
@@ -54,7 +63,7 @@ high : (c : tie.After-struct-told)
 high c =
     let a = seen c .args in
     let m = seen c .pre .1 .0 .heights .most (a .y * a .grid .width + a .x) in
-    let n = c .before .if1 .left in
+    let n = in-window c .above in
     (omega arith, omega arith)
 
 -- The sample that is made.
@@ -83,56 +92,53 @@ made c =
     (back w32 _ (w .ok) (w .ensures ∙ at-words _ (f .zorigin) (f .zstep)))
 
 mul-at : tie.Need-mul-at
-mul-at c = let p = begun c .pre .1 in omega (arith, pixel-most _ _ _ (p .1 .0) (p .1 .1) (p .0 .heights))
+mul-at c = let p = begun c .pre .1 in omega (arith, pixel-most _ _ _ (p .1 .0 .0) (p .1 .0 .1) (p .0 .heights))
 
 add-at : tie.Need-add-at
-add-at c = let p = begun c .pre .1 in omega (arith, pixel-most _ _ _ (p .1 .0) (p .1 .1) (p .0 .heights))
+add-at c = let p = begun c .pre .1 in omega (arith, pixel-most _ _ _ (p .1 .0 .0) (p .1 .0 .1) (p .0 .heights))
 
 cast-at : tie.Need-cast-at
-cast-at c = let p = begun c .pre .1 in omega (arith, pixel-most _ _ _ (p .1 .0) (p .1 .1) (p .0 .heights))
+cast-at c = let p = begun c .pre .1 in omega (arith, pixel-most _ _ _ (p .1 .0 .0) (p .1 .0 .1) (p .0 .heights))
 
 mul-height : tie.Need-mul-height
-mul-height c = let p = begun c .pre .1 in omega (arith, pixel-most _ _ _ (p .1 .0) (p .1 .1) (p .0 .heights))
+mul-height c = let p = begun c .pre .1 in omega (arith, pixel-most _ _ _ (p .1 .0 .0) (p .1 .0 .1) (p .0 .heights))
 
 shared-slice-read-height : tie.Need-shared-slice-read-height
-shared-slice-read-height c = let p = at-test c .pre .1 in pixel-in _ _ _ (p .1 .0) (p .1 .1) (p .0 .heights)
+shared-slice-read-height c = let p = at-test c .pre .1 in pixel-in _ _ _ (p .1 .0 .0) (p .1 .0 .1) (p .0 .heights)
 
-put-requires : tie.Need-put-requires
-put-requires c κs =
-    let p = at-test (c .before .before) .pre .1 in
-    (three-in _ _ _ (p .1 .0) (p .1 .1) (p .0), pixel-most _ _ _ (p .1 .0) (p .1 .1) (p .0 .heights))
-
-same-length : tie.Need-same-length
-same-length c = search needs
+cast-height : tie.Need-cast-height
+cast-height c =
+    let a = at-test c .args in
+    let p = at-test c .pre .1 .0 .heights in
+    let d = small true _ (p .fault) .depth in
+    omega (arith, d, p .most (a .y * a .grid .width + a .x))
 
 returns : tie.Need-returns
 returns c =
-    let t = c .before .before .before in
-    let p = at-test (t .before) .pre .1 in
-    blank-shaded (p .0) _ _ (p .1 .0) (p .1 .1) _ (t .if1 .taken) (c .before .put .ensures)
+    let s = at-test (c .before .before) in
+    (pixel-low (s .args .x) (s .args .y) _ (c .if1 .taken), s .pre .1 .1 .1)
+
+returns-2 : tie.Need-returns-2
+returns-2 c =
+    let s = at-test (c .before .before .before .before) in
+    (pixel-high (s .args .x) (s .args .y) _ (c .if2 .taken), s .pre .1 .1 .1)
 
 sample-requires : tie.Need-sample-requires
 sample-requires c κs =
     let t = c .before in
     let f = told t in
     let p = seen t .pre .1 in
-    rw (at-words _ (f .xorigin) (f .xstep)) (accepted _ true (p .0 .heights .fault) .x-value _ (p .1 .0))
+    rw (at-words _ (f .xorigin) (f .xstep)) (accepted _ true (p .0 .heights .fault) .x-value _ (p .1 .0 .0))
 
 sample-requires-2 : tie.Need-sample-requires-2
 sample-requires-2 c κs =
     let t = to-y c in
     let f = told t in
     let p = seen t .pre .1 in
-    rw (at-words _ (f .yorigin) (f .ystep)) (accepted _ true (p .0 .heights .fault) .y-value _ (p .1 .1))
-
-cast-sample : tie.Need-cast-sample
-cast-sample c =
-    let t = to-y (c .before) in
-    let d = small true _ (seen t .pre .1 .0 .heights .fault) .depth in
-    omega (arith, d, high t .0, high t .1)
+    rw (at-words _ (f .yorigin) (f .ystep)) (accepted _ true (p .0 .heights .fault) .y-value _ (p .1 .0 .1))
 
 sub-sample : tie.Need-sub-sample
-sub-sample c = search needs
+sub-sample c = high (to-y (c .before)) .0
 
 sample-requires-3 : tie.Need-sample-requires-3
 sample-requires-3 c κs =
@@ -143,32 +149,43 @@ sample-requires-3 c κs =
 
 run-slopes-requires : tie.Need-run-slopes-requires
 run-slopes-requires c κs =
-    let p = start c .pre in (
+    let t = c .before in
+    let p = start t .pre in
+    let k = p .1 .1 .0 in (
       sound-runs (p .0),
-      sample-ok _ (p .1 .0 .heights .fault) _ _ _ (p .1 .1 .0) (p .1 .1 .1) (high (to-z (c .before)) .1) _ (made c),
+      (
+        sample-ok _ (p .1 .0 .heights .fault) _ _ _ (k .0) (k .1) (high (to-z (t .before)) .1) _ (made t),
+        p .1 .1 .1,
+      ),
     )
 
-put-requires-2 : tie.Need-put-requires-2
-put-requires-2 c κs =
-    let p = start (ran c .before) .pre .1 in
-    (three-in _ _ _ (p .1 .0) (p .1 .1) (p .0), pixel-most _ _ _ (p .1 .0) (p .1 .1) (p .0 .heights))
+put-requires : tie.Need-put-requires
+put-requires c κs =
+    let p = start (ran c .before .before) .pre .1 in
+    (three-in _ _ _ (p .1 .0 .0) (p .1 .0 .1) (p .0), pixel-most _ _ _ (p .1 .0 .0) (p .1 .0 .1) (p .0 .heights))
 
-same-length-2 : tie.Need-same-length-2
-same-length-2 c = search needs
+same-length : tie.Need-same-length
+same-length c = search needs
 
-returns-2 : tie.Need-returns-2
-returns-2 c =
+returns-3 : tie.Need-returns-3
+returns-3 c =
     let r = ran (c .before .before) in
-    let t = r .before in
+    let t = r .before .before in
     let a = start t .args in
+    let q = start t .pre .0 in
     let p = start t .pre .1 in
-    let v = r .run-slopes .ensures .values in
+    let f = r .run-slopes .ensures in
+    let v = f .0 .values (q .slots) (q .accepted) in
     let h = getD (a .picture .now) (a .y * a .grid .width + a .x) 0 in
-    sample-shaded (p .0) _ _ (p .1 .0) (p .1 .1) _ (h - 1) (omega (arith, high (to-z (t .before)) .0))
-    (r .run-slopes .result)
-    (subst (λ (s : Sample). Sloping (a .code .now) s (r .run-slopes .result)) (made t) (r .run-slopes .ensures))
-    (c .before .put2 .ensures
-    ∙ put-words (a .slopes .now) (a .y * a .grid .width + a .x) (value-fits _ (v .x)) (value-fits _ (v .y)) (value-fits _ (v .z)))
+    let w = to-z (t .before) in (
+      sample-shaded (p .0) _ _ (p .1 .0 .0) (p .1 .0 .1) _ (h - 1) (in-window w) (omega (arith, high w .0))
+          (r .run-slopes .result)
+          (subst (λ (s : Sample). Sloping (a .code .now) s (r .run-slopes .result)) (made t) (f .0))
+          (c .before .put .ensures
+          ∙ put-words (a .slopes .now) (a .y * a .grid .width + a .x) (value-fits _ (v .x)) (value-fits _ (v .y))
+          (value-fits _ (v .z))),
+      f .1,
+    )
 
 pub shade-pixel-spec : {M : Type 1} → statement M
 shade-pixel-spec =
@@ -179,15 +196,14 @@ shade-pixel-spec =
     cast-at
     mul-height
     shared-slice-read-height
-    put-requires
-    same-length
+    cast-height
     returns
+    returns-2
     sample-requires
     sample-requires-2
-    cast-sample
     sub-sample
     sample-requires-3
     run-slopes-requires
-    put-requires-2
-    same-length-2
-    returns-2)
+    put-requires
+    same-length
+    returns-3)

@@ -4,24 +4,27 @@ use mathlib.Core.Bool.{true}
 use Prim.Native.Nat.{_-_}
 use native.Mathlib.Omega.{arith}
 use lib.ListN.{length}
+use Rattle.rules.specs.Tapes.{slotLimit}
 use Rattle.walk.specs.Cells.{Ends}
 use Rattle.walk.proofs.CellLaws.{small, ends}
+use Rattle.shading.specs.Shades.{allOf}
 use Rattle.shading.proofs.ShadeLaws.{rows-in, fits-again, AtRow, rows-begin, rows-next, rows-done}
 use borrow.Author.Needs.{needs}
 use Rattle.shading.proofs.sixteens.sixteen_rows.Statement.{statement}
 use Rattle.shading.proofs.sixteens.sixteen_rows.Tie as tie
 
 abbrev Inv-loop : tie.InvT-loop
-Inv-loop whole places grid block picture slopes₀ work₀ first₀ firstplaces₀ second₀ secondplaces₀ y₀ slopes work first firstplaces second secondplaces y =
-    AtRow whole grid picture block slopes₀ slopes y
+Inv-loop whole places grid block picture slopes₀ work₀ first₀ firstplaces₀ second₀ secondplaces₀ slots₀ y₀ slopes work first firstplaces second secondplaces slots y =
+    AtRow whole grid picture (allOf grid) block slopes₀ slopes y
     × (length work ≡ length work₀)
     × (length first ≡ length first₀)
     × (length firstplaces ≡ length firstplaces₀)
     × (length second ≡ length second₀)
     × (length secondplaces ≡ length secondplaces₀)
+    × (length slots ≡ slotLimit)
 
 abbrev μ-loop : tie.MeasureT-loop
-μ-loop whole places grid block picture slopes₀ work₀ first₀ firstplaces₀ second₀ secondplaces₀ y₀ slopes work first firstplaces second secondplaces y = block .yend - y
+μ-loop whole places grid block picture slopes₀ work₀ first₀ firstplaces₀ second₀ secondplaces₀ slots₀ y₀ slopes work first firstplaces second secondplaces slots y = block .yend - y
 
 -- The places: the start, the loop, a turn of it, the end of its part, after the call, and past the loop.
 abbrev begun : tie.After-slice-known5 Inv-loop μ-loop → tie.Start Inv-loop μ-loop
@@ -33,8 +36,8 @@ start c = begun (c .before)
 abbrev at-test : tie.Then1 Inv-loop μ-loop → tie.At-loop Inv-loop μ-loop
 at-test c = c .before .before
 
-abbrev ended : tie.After-sixteen-row-arg6 Inv-loop μ-loop → tie.After-lesser Inv-loop μ-loop
-ended c = c .before .before .before .before .before .before
+abbrev ended : tie.After-sixteen-row-arg7 Inv-loop μ-loop → tie.After-lesser Inv-loop μ-loop
+ended c = c .before .before .before .before .before .before .before
 
 abbrev called : tie.After-slice-known10 Inv-loop μ-loop → tie.After-sixteen-row Inv-loop μ-loop
 called c = c .before .before .before .before .before .before .before .before .before .before .before
@@ -48,7 +51,7 @@ part : (c : tie.After-lesser Inv-loop μ-loop)
 part c = ends _ _ 16 _ (c .lesser .ensures) (c .before .if1 .taken) (omega arith)
 
 loop-holds : tie.Need-loop-holds Inv-loop μ-loop
-loop-holds c = (rows-begin (begun c .pre .1 .1 .0) _, refl, refl, refl, refl, refl)
+loop-holds c = (rows-begin (begun c .pre .1 .1 .0) _, refl, refl, refl, refl, refl, begun c .pre .1 .1 .1 .1)
 
 add-lesser : tie.Need-add-lesser Inv-loop μ-loop
 add-lesser c =
@@ -66,9 +69,26 @@ sixteen-row-requires c κs =
     let i = l .loop .inv in
     let s = start l in
     let p = s .pre .1 in
-    let r = p .1 .1 in
-    let b = rows-in (l .loop .y) (e .lesser .result) (p .1 .0) (part e .some) (part e .in-grid) in
-    (s .pre .0, (fits-again (p .0) (i .0 .size), (b, (omega (arith, i .1, r .0), omega (arith, i .2, r .1), omega (arith, i .3, i .2, r .2), omega (arith, i .4, r .3), omega (arith, i .5, i .4, r .4)))))
+    let r = p .1 .1 .0 in
+    let b = rows-in (l .loop .y) (e .lesser .result) (p .1 .0) (part e .some) (part e .in-grid) in (
+      s .pre .0,
+      (
+        fits-again (p .0) (i .0 .size),
+        (
+          b,
+          (
+            (
+              omega (arith, i .1, r .0),
+              omega (arith, i .2, r .1),
+              omega (arith, i .3, i .2, r .2),
+              omega (arith, i .4, r .3),
+              omega (arith, i .5, i .4, r .4),
+            ),
+            i .6,
+          ),
+        ),
+      ),
+    )
 
 loop-less : tie.Need-loop-less Inv-loop μ-loop
 loop-less c = let e = ended (called c .before) in omega (arith, part e .some, e .before .if1 .taken)
@@ -81,12 +101,13 @@ loop-again c =
     let i = l .loop .inv in
     let kept = v .kept .1 .1 .1 .1 .1 in (
       rows-next (start l .pre .1 .1 .0) (e .lesser .result) (i .0) (omega (arith, part e .some)) (part e .in-grid)
-          (v .ensures) (kept .0),
+          (v .ensures .0) (kept .0),
       kept .1 .0 ∙ i .1,
       kept .1 .1 .0 ∙ i .2,
       kept .1 .1 .1 .0 ∙ i .3,
       kept .1 .1 .1 .1 .0 ∙ i .4,
       kept .1 .1 .1 .1 .1 .0 ∙ i .5,
+      v .ensures .1,
     )
 
 same-length : tie.Need-same-length Inv-loop μ-loop
@@ -108,7 +129,7 @@ same-length-6 : tie.Need-same-length-6 Inv-loop μ-loop
 same-length-6 c = past c .loop .inv .5
 
 returns : tie.Need-returns Inv-loop μ-loop
-returns c = rows-done (past c .loop .inv .0) (omega (arith, c .if1 .left))
+returns c = let i = past c .loop .inv in (rows-done (i .0) (omega (arith, c .if1 .left)), i .6)
 
 pub sixteen-rows-spec : {M : Type 1} → statement M
 sixteen-rows-spec =

@@ -3,16 +3,15 @@ use mathlib.Core.Bool.{true}
 use Prim.Native.Nat.{_-_}
 use native.Mathlib.Omega.{arith}
 use Rattle.walk.proofs.CellLaws.{small}
-use Rattle.shading.proofs.VisibleLaws.{SeenRows, seen-rows, rows-seen, rows-all}
-use Rattle.shading.proofs.block.visible.Statement.{statement}
-use Rattle.shading.proofs.block.visible.Tie as tie
+use Rattle.shading.proofs.TopLaws.{TopRows, tops-rows, rows-top, rows-all}
+use Rattle.shading.proofs.block.top_in.Statement.{statement}
+use Rattle.shading.proofs.block.top_in.Tie as tie
 
 abbrev Inv-loop : tie.InvT-loop
-Inv-loop picture grid block seen₀ y₀ seen y =
-    SeenRows grid picture block (record { from = grid .depth; end = 0 }) seen y
+Inv-loop picture grid block bound top₀ y₀ top y = TopRows grid picture block bound 0 top y
 
 abbrev μ-loop : tie.MeasureT-loop
-μ-loop picture grid block seen₀ y₀ seen y = block .yend - y
+μ-loop picture grid block bound top₀ y₀ top y = block .yend - y
 
 -- The places: the start, the loop, a turn of it, and past the loop.
 abbrev begun : tie.After-shared-slice-known Inv-loop μ-loop → tie.Start Inv-loop μ-loop
@@ -28,13 +27,13 @@ abbrev past : tie.Else1 Inv-loop μ-loop → tie.At-loop Inv-loop μ-loop
 past c = c .before .before
 
 loop-holds : tie.Need-loop-holds Inv-loop μ-loop
-loop-holds c = seen-rows _ (omega arith) (omega (arith, begun c .pre .1 .y-some))
+loop-holds c = tops-rows _ (omega arith) (omega (arith, begun c .pre .1 .y-some))
 
-visible-row-requires : tie.Need-visible-row-requires Inv-loop μ-loop
-visible-row-requires c κs =
+top-row-requires : tie.Need-top-row-requires Inv-loop μ-loop
+top-row-requires c κs =
     let p = start (at-test c) .pre in
     let i = at-test c .loop .inv in
-    (p .0, (p .1, (i .from, c .if1 .taken, i .seen .most)))
+    (p .0, (p .1, (i .from, c .if1 .taken, i .tops .most)))
 
 add-y : tie.Need-add-y Inv-loop μ-loop
 add-y c =
@@ -49,19 +48,19 @@ loop-less c = omega (arith, c .before .if1 .taken)
 loop-again : tie.Need-loop-again Inv-loop μ-loop
 loop-again c =
     let t = c .before in
-    rows-seen (at-test t .loop .inv) (t .if1 .taken) (c .visible-row .ensures)
+    rows-top (at-test t .loop .inv) (t .if1 .taken) (c .top-row .ensures)
 
 returns : tie.Need-returns Inv-loop μ-loop
 returns c = rows-all (past c .loop .inv) (omega (arith, c .if1 .left))
 
-pub visible-spec : {M : Type 1} → statement M
-visible-spec =
+pub top-in-spec : {M : Type 1} → statement M
+top-in-spec =
     tie.close
     (tie.spec
     Inv-loop
     μ-loop
     loop-holds
-    visible-row-requires
+    top-row-requires
     add-y
     loop-less
     loop-again

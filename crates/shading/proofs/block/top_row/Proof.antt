@@ -5,16 +5,16 @@ use native.Mathlib.Omega.{arith}
 use Rattle.walk.proofs.CellLaws.{small}
 use Rattle.shading.specs.Shades.{rowOf}
 use Rattle.shading.proofs.ShadeLaws.{pixel-in, pixel-most}
-use Rattle.shading.proofs.VisibleLaws.{covers-pixel, SeenColumns, seen-columns, columns-seen, columns-all}
+use Rattle.shading.proofs.TopLaws.{tops-pixel, TopColumns, tops-columns, columns-top, columns-all}
 use borrow.Author.Needs.{needs}
-use Rattle.shading.proofs.block.visible_row.Statement.{statement}
-use Rattle.shading.proofs.block.visible_row.Tie as tie
+use Rattle.shading.proofs.block.top_row.Statement.{statement}
+use Rattle.shading.proofs.block.top_row.Tie as tie
 
 abbrev Inv-loop : tie.InvT-loop
-Inv-loop picture grid block y seen₀ x₀ seen x = SeenColumns grid picture (rowOf block y) seen₀ seen x
+Inv-loop picture grid block y bound known top₀ x₀ top x = TopColumns grid picture (rowOf block y) bound top₀ top x
 
 abbrev μ-loop : tie.MeasureT-loop
-μ-loop picture grid block y seen₀ x₀ seen x = block .xend - x
+μ-loop picture grid block y bound known top₀ x₀ top x = block .xend - x
 
 -- The places: the start, the loop, a turn of it, after the call, and past the loop.
 abbrev begun : tie.After-shared-slice-known Inv-loop μ-loop → tie.Start Inv-loop μ-loop
@@ -45,7 +45,7 @@ here c =
     record { x-in = omega (arith, c .if1 .taken, p .0 .x-in); y-in = omega (arith, p .1 .1, p .0 .y-in) }
 
 loop-holds : tie.Need-loop-holds Inv-loop μ-loop
-loop-holds c = let p = begun c .pre .1 in seen-columns _ (p .1 .2) (omega (arith, p .0 .x-some))
+loop-holds c = let p = begun c .pre .1 in tops-columns _ (p .1 .2) (omega (arith, p .0 .x-some))
 
 mul-at : tie.Need-mul-at Inv-loop μ-loop
 mul-at c =
@@ -89,14 +89,14 @@ loop-again : tie.Need-loop-again Inv-loop μ-loop
 loop-again c =
     let t = in-turn (c .before .before) in
     let l = at-test t in
-    columns-seen (l .loop .inv) (t .if1 .taken)
-    (covers-pixel _ _ (start l .pre .0) (l .loop .inv .seen .most) (c .join .ensures))
+    columns-top (l .loop .inv) (t .if1 .taken)
+    (tops-pixel _ _ (l .loop .inv .tops .most) (c .join .ensures))
 
 returns : tie.Need-returns Inv-loop μ-loop
 returns c = columns-all (past c .loop .inv) (omega (arith, c .if1 .left))
 
-pub visible-row-spec : {M : Type 1} → statement M
-visible-row-spec =
+pub top-row-spec : {M : Type 1} → statement M
+top-row-spec =
     tie.close
     (tie.spec
     Inv-loop
