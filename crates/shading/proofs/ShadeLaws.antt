@@ -3,11 +3,11 @@ use mathlib.Core.Path.{_≡_, refl, sym, ap, subst, _∙_}
 use mathlib.Core.Bool.{Bool, true, false}
 use mathlib.Core.List.{List}
 use mathlib.Core.Logic.{_⊎_, inl, inr}
-use Prim.Native.Nat.{ℕ, zero, suc, _+_, _*_, _≤_, _<_}
+use Prim.Native.Nat.{ℕ, suc, _+_, _*_, _≤_, _<_}
 use native.Mathlib.Nat.{mul-comm, mul-le-mul, mul-le-mul-right}
 use native.Mathlib.Omega.{arith}
 use lib.Dec.{eqb, leb}
-use lib.IntN.{ℤ, pos}
+use lib.IntN.{ℤ}
 use lib.ListN.{length, getD}
 use borrow.Author.Tests.{eqb-true, eqb-false, leb-true, leb-false}
 use mir.Syntax.{w32}
@@ -16,13 +16,11 @@ use mir.Facts.{toZ-ofZ}
 use Rattle.rules.specs.Tapes.{Tape}
 use Rattle.rules.specs.Values.{Sample}
 use Rattle.rules.specs.Drawings.{at, sampleAt, gridFault}
-use Rattle.rules.specs.Slopes.{Slopes, slopesAt, listed, threeAt, pixelSlopes}
+use Rattle.rules.specs.Slopes.{Slopes, listed, threeAt, pixelSlopes}
 use Rattle.rules.proofs.Heights.{same-pixel}
 use Rattle.rules.proofs.Words.{read}
 use Rattle.rules.proofs.SlopePixels.{three-same, three-other}
-use Rattle.code.specs.Words.{tapeIn}
 use Rattle.code.specs.Runs.{SampleOk}
-use Rattle.fixed.specs.Shapes.{sampleIn}
 use Rattle.picture.specs.Shapes.{gridIn}
 use Rattle.picture.specs.declared.grid.Grid.{Grid}
 use Rattle.slopes.specs.Shapes.{slopesIn, Sloping}
@@ -102,7 +100,8 @@ fits-again f e = record { heights = f .heights; slopes = e ∙ f .slopes }
 -- One pixel: the slopes of its visible sample.
 module _ {grid : Grid} {h : List ℕ} {win : Layers} {b : List ℤ} (f : Fits grid h b) (x y : ℕ) (hx : x < grid .width)
     (hy : y < grid .height) where
-  put-right : (t : Tape) (n : Slopes) → threeAt (putAt b (y * grid .width + x) (n .x) (n .y) (n .z)) (y * grid .width + x)
+  put-right : (t : Tape) (n : Slopes)
+      → threeAt (putAt b (y * grid .width + x) (n .x) (n .y) (n .z)) (y * grid .width + x)
       ≡ pixelSlopes t (gridIn grid true) x y (getD h (y * grid .width + x) 0)
       → Shades t grid h win (pixelAt x y) b (putAt b (y * grid .width + x) (n .x) (n .y) (n .z))
   put-right t n e =
@@ -150,7 +149,8 @@ pub record Part (d c : Block) : Type 0 where
 within-part : {d c : Block} → Part d c → (i j : ℕ) → Within d i j → Within c i j
 within-part p i j w = omega arith
 
-pub alike-part : {t : Tape} {ws : List ℕ} {grid : Grid} {h : List ℕ} {win : Layers} {d c : Block} → Part d c → Alike t ws grid h win c
+pub alike-part : {t : Tape} {ws : List ℕ} {grid : Grid} {h : List ℕ} {win : Layers} {d c : Block}
+    → Part d c → Alike t ws grid h win c
     → Alike t ws grid h win d
 alike-part p a =
     record {
@@ -166,7 +166,8 @@ module _ {ws : List ℕ} {grid : Grid} {h : List ℕ} {win : Layers} {c : Block}
   shading-none d b n =
       record { shades = λ t a. record { kept = λ i j k l r. r; done = λ i j w s. absurd (n i j w s) } }
 
-  pub shading-part : {d : Block} {b b′ : List ℤ} → Part d c → Shading ws grid h win d d b b′ → Shading ws grid h win c d b b′
+  pub shading-part : {d : Block} {b b′ : List ℤ} → Part d c → Shading ws grid h win d d b b′
+      → Shading ws grid h win c d b b′
   shading-part p s = record { shades = λ t a. s .shades t (alike-part p a) }
 
   shading-both : {d e q : Block} {b b₁ b₂ : List ℤ} → ((i j : ℕ) → Within q i j → Within d i j ⊎ Within e i j)
@@ -231,13 +232,15 @@ module _ {ws : List ℕ} {grid : Grid} {h : List ℕ} {win : Layers} {c : Block}
       shading-both (rows-split a a′ y z z′) (λ i j w. (omega (arith, w, k), omega (arith, w, l)))
 
 -- A loop along the columns of a block c, at x, and over its rows, at y: what is behind is shaded.
-pub record AtColumn (ws : List ℕ) (grid : Grid) (h : List ℕ) (win : Layers) (c : Block) (b b′ : List ℤ) (x : ℕ) : Type 0 where
+pub record AtColumn (ws : List ℕ) (grid : Grid) (h : List ℕ) (win : Layers) (c : Block) (b b′ : List ℤ) (x : ℕ)
+    : Type 0 where
   pub from : c .x ≤ x
   pub to : x ≤ c .xend
   pub shaded : Shading ws grid h win c (blockAt (c .x) x (c .y) (c .yend)) b b′
   pub size : length b′ ≡ length b
 
-pub record AtRow (ws : List ℕ) (grid : Grid) (h : List ℕ) (win : Layers) (c : Block) (b b′ : List ℤ) (y : ℕ) : Type 0 where
+pub record AtRow (ws : List ℕ) (grid : Grid) (h : List ℕ) (win : Layers) (c : Block) (b b′ : List ℤ) (y : ℕ)
+    : Type 0 where
   pub from : c .y ≤ y
   pub to : y ≤ c .yend
   pub shaded : Shading ws grid h win c (blockAt (c .x) (c .xend) (c .y) y) b b′

@@ -1,18 +1,17 @@
 -- Windows of layers, from the greatest height of a block down; and all pixels of the picture.
 use mathlib.Core.Path.{_≡_, refl, sym, ap, _∙_}
 use mathlib.Core.Bool.{Bool, true, false}
-use mathlib.Core.List.{List, [], _∷_, _++_}
+use mathlib.Core.List.{List, [], _∷_}
 use Prim.Native.Nat.{ℕ, zero, suc, _+_, _-_, _*_, _≤_, _<_}
 use native.Mathlib.Nat.{mul-comm}
 use native.Mathlib.Omega.{arith}
-use lib.Dec.{leb, eqb}
+use lib.Dec.{leb}
 use lib.IntN.{ℤ, pos}
 use lib.ListN.{length, getD, replicate}
 use borrow.Author.Tests.{leb-true, leb-false}
 use Rattle.rules.specs.Tapes.{Tape}
 use Rattle.rules.specs.Drawings.{lesser}
 use Rattle.rules.specs.Slopes.{threeAt, pixelSlopes}
-use Rattle.rules.specs.Accepted.{Accepted}
 use Rattle.rules.proofs.Algebra.{of-replicate}
 use Rattle.rules.proofs.Regions.{lesser-both, lesser-most}
 use Rattle.rules.proofs.SlopePixels.{slopes-shown}
@@ -21,8 +20,8 @@ use Rattle.picture.specs.Shapes.{gridIn}
 use Rattle.picture.specs.declared.grid.Grid.{Grid}
 use Rattle.shading.specs.declared.block.Block.{Block}
 use Rattle.shading.specs.declared.block.Layers.{Layers}
-use Rattle.shading.specs.Shades.{Heights, Fits, blockAt, BlockIn, Within, Right, Seen, layersAt, allOf, Shades, Alike}
-use Rattle.shading.specs.Shades.{Shading, Shaded, Tops}
+use Rattle.shading.specs.Shades.{Fits, blockAt, BlockIn, Within, Right, Seen, layersAt, allOf}
+use Rattle.shading.specs.Shades.{Shades, Alike, Shading, Shaded, Tops}
 use Rattle.shading.proofs.ShadeLaws.{shading-none}
 
 -- The words stand for the tape in every part of a window.
@@ -73,13 +72,15 @@ module _ {ws : List ℕ} {grid : Grid} {h : List ℕ} {c : Block} (k : BlockIn g
         shaded = record {
           shades = λ t o. both t
               (a .shaded .shades t
-              (alike-less (layersAt r (grid .depth)) (layersAt top (grid .depth)) (omega (arith, v .most, l)) (omega arith) o))
+              (alike-less (layersAt r (grid .depth)) (layersAt top (grid .depth))
+              (omega (arith, v .most, l)) (omega arith) o))
               (s .shades t (alike-less (layersAt r (grid .depth)) (layersAt from top) (v .most) (a .in-grid) o));
         };
         size = e ∙ a .size;
       }
     where
-      both : (t : Tape) → Shades t grid h (layersAt top (grid .depth)) c b b₁ → Shades t grid h (layersAt from top) c b₁ b₂
+      both : (t : Tape) → Shades t grid h (layersAt top (grid .depth)) c b b₁
+          → Shades t grid h (layersAt from top) c b₁ b₂
           → Shades t grid h (layersAt r (grid .depth)) c b b₂
       both t p q =
           record {
@@ -95,7 +96,8 @@ module _ {ws : List ℕ} {grid : Grid} {h : List ℕ} {c : Block} (k : BlockIn g
               (p .done i j w (record { above = omega arith; most = u .most }))
           by i j w u true x =
               let y = leb-true (getD h (j * grid .width + i) 0) top x in
-              q .done i j w (record { above = under i j w u (leb (getD h (j * grid .width + i) 0) from) refl; most = y })
+              let z = under i j w u (leb (getD h (j * grid .width + i) 0) from) refl in
+              q .done i j w (record { above = z; most = y })
             where
               under : (i j : ℕ) → Within c i j → Seen grid h (layersAt r (grid .depth)) i j → (d : Bool)
                   → leb (getD h (j * grid .width + i) 0) from ≡ d → from < getD h (j * grid .width + i) 0
@@ -106,7 +108,8 @@ module _ {ws : List ℕ} {grid : Grid} {h : List ℕ} {c : Block} (k : BlockIn g
                   let y = v .all i j w (leb-true (getD h (j * grid .width + i) 0) from z) in
                   omega (arith, y, u .above)
 
-  pub top-done : {b b′ : List ℤ} {top : ℕ} → AtTop ws grid h c b b′ top → top ≤ 0 → Shading ws grid h (allOf grid) c c b b′
+  pub top-done : {b b′ : List ℤ} {top : ℕ} → AtTop ws grid h c b b′ top → top ≤ 0
+      → Shading ws grid h (allOf grid) c c b b′
   top-done {b} {b′} {top} a l = rw (none top l) at (a .shaded)
     where
       none : (n : ℕ) → n ≤ 0 → n ≡ 0
@@ -122,7 +125,8 @@ three-none n p = rw (zero-at (3 * p), zero-at (3 * p + 1), zero-at (3 * p + 2))
 -- All pixels of the grid: the list is the picture's slopes.
 pub all-shaded : {ws : List ℕ} {grid : Grid} {h : List ℕ} {b₀ b b′ : List ℤ} → Fits grid h b₀
     → b ≡ replicate (length b₀) (pos 0) → length b′ ≡ length b₀
-    → Shading ws grid h (allOf grid) (blockAt 0 (grid .width) 0 (grid .height)) (blockAt 0 (grid .width) 0 (grid .height)) b b′
+    → Shading ws grid h (allOf grid) (blockAt 0 (grid .width) 0 (grid .height))
+    (blockAt 0 (grid .width) 0 (grid .height)) b b′
     → Shaded ws grid h b′
 all-shaded {ws} {grid} {h} {b₀} {b} {b′} f z e s =
     record {

@@ -1,5 +1,5 @@
-// Side 16: blocks of side 16 of the picture, with a short tape for each window of layers that the blocks of side 4 start
-// from; and the whole picture.
+// Side 16: blocks of side 16 of the picture, with a short tape for each window of layers, which the blocks of side 4
+// start from; and the whole picture.
 use crate::block::Block;
 use crate::block::Layers;
 use crate::block::top_in;

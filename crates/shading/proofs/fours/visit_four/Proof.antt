@@ -31,7 +31,8 @@ top-in-requires c κs = let p = begun c .pre .1 in (p .0 .heights, p .1 .0)
 returns : tie.Need-returns
 returns c =
     let t = looked c in
-    (shading-nothing _ (t .top-in .ensures) (c .if1 .taken), begun (t .before) .pre .1 .1 .1 .1 .1)
+    let s = begun (t .before) in
+    (shading-nothing {win = s .args .window} _ (t .top-in .ensures) (c .if1 .taken), s .pre .1 .1 .1 .1 .1)
 
 mark-room-requires : tie.Need-mark-room-requires
 mark-room-requires c κs = start c .pre .0 .kept .kept .within
