@@ -31,7 +31,7 @@
  *    9 a slot read that no earlier clause wrote
  *   10 a size not 1 to 512
  *   11 a step below 1, or an origin, z or last sample outside -2,147,483,647 to 2,147,483,647
- *   12 picture buffer not of the exact length
+ *   12 picture or slope buffer not of the exact length
  *   13 work buffer below 32,768 bytes
  *   14 packing, unpacking, text or file: output not of the exact length
  *   17 text: the rules of a formula broken
@@ -125,6 +125,13 @@ LayersAnswer layers_tile_flat(const uint8_t *tape, size_t tape_len, LayersGrid g
                               uint8_t *work, size_t work_len);
 LayersAnswer layers_tile_solid(const uint8_t *tape, size_t tape_len, LayersGrid grid, uint16_t *picture, size_t picture_len,
                                uint8_t *work, size_t work_len);
+
+/*
+ * The picture and the count of layers_tile_solid, and three slopes a pixel, x, y and z of one and then of the next: how
+ * much the formula grows along each axis at the visible sample, in units of 1/65,536 for each 1; 0 where the height is 0.
+ */
+LayersAnswer layers_tile_slopes(const uint8_t *tape, size_t tape_len, LayersGrid grid, uint16_t *picture, size_t picture_len,
+                                int32_t *slopes, size_t slopes_len, uint8_t *work, size_t work_len);
 
 /* Netpbm files. */
 LayersAnswer layers_write_bitmap(uint32_t width, uint32_t height, const uint8_t *picture, size_t picture_len, uint8_t *out,

@@ -27,7 +27,7 @@ use Rattle.layers.specs.Says.{lengthFault, drawLines, drawFault, FullSay
 use Rattle.layers.specs.Sizes.{Draws, FullOf, TilesOf}
 use Rattle.layers.proofs.Answers.{answer, refused-by, done-by}
 
-when-zero : (t : Bool) (n : ℕ) → when (not t) (suc n) ≡ 0 → t ≡ true
+pub when-zero : (t : Bool) (n : ℕ) → when (not t) (suc n) ≡ 0 → t ≡ true
 when-zero true n e = refl
 when-zero false n e = absurd (omega arith)
 
@@ -80,7 +80,7 @@ module _ {t : Bool} {s : List ℕ} {g : D.Grid} {n m : ℕ} (d : Draws t s g n m
   pub words-accepted : Accepted (tapeIn (readTape s .tape .slots) (take k ws′))
   words-accepted = unpacked-accepted s ws ws′ k o (d .read)
 
-  words-tape : tapeIn (readTape s .tape .slots) (take k ws′) ≡ readTape s .tape
+  pub words-tape : tapeIn (readTape s .tape .slots) (take k ws′) ≡ readTape s .tape
   words-tape = unpacked-tape s ws ws′ k o
 
   pub drawable : Drawable t (take k ws′) g

@@ -3,6 +3,8 @@ pub mod Answers
 pub mod StepLaws
 pub mod Drawing
 pub mod Tiling
+pub mod Sloping
+pub mod Slopes
 pub mod DemandTwo
 pub mod DemandThree
 pub mod Probes

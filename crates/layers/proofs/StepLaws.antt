@@ -1,18 +1,20 @@
 -- The steps of a call: a search through its lines, and the length of a picture.
-use mathlib.Core.Path.{_≡_, sym, ap, _∙_}
-use mathlib.Core.Bool.{Bool, true, false}
+use mathlib.Core.Path.{_≡_, refl, sym, ap, _∙_}
+use mathlib.Core.Bool.{Bool, true, false, not}
 use mathlib.Core.List.{List}
-use Prim.Native.Nat.{ℕ, _+_, _*_, _≤_, _<_}
+use Prim.Native.Nat.{ℕ, _+_, _*_, _/_, _%_, _≤_, _<_}
 use native.Mathlib.Nat.{mul-le-mul}
+use native.Mathlib.Omega.{arith}
 use native.Mathlib.Numerals.{add-one}
+use lib.Dec.{eqb}
 use lib.ListN.{length, getD, drop}
 use lib.Seq.{drop-cons, drop-length}
-use borrow.Author.Tests.{eq-eqb, ne-eqb, lt-ltb, le-ltb}
-use Rattle.rules.specs.Values.{firstOf, firstFault}
+use borrow.Author.Tests.{eqb-true, eqb-false, eq-eqb, ne-eqb, lt-ltb, le-ltb}
+use Rattle.rules.specs.Values.{firstOf, firstFault, when}
 use Rattle.rules.specs.Drawings as D
 use Rattle.rules.specs.Pictures.{stride, pictureSize}
 use Rattle.rules.proofs.Lines.{first-here}
-use Rattle.layers.specs.Says.{lengthFault, workFault}
+use Rattle.layers.specs.Says.{lengthFault, slopeFault, workFault}
 
 -- The lines from the i-th on: the first of these is the first of all.
 pub record From (lines : List ℕ) (i : ℕ) : Type 0 where
@@ -37,6 +39,24 @@ length-wrong t g n m h e = rw (ne-eqb n (pictureSize t g) (λ z. h (z ∙ sym e)
 
 pub length-right : (t : Bool) (g : D.Grid) (n m : ℕ) → n ≡ m → m ≡ pictureSize t g → 0 ≡ lengthFault t g n
 length-right t g n m h e = rw (eq-eqb n (pictureSize t g) (h ∙ e))
+
+-- A third of the slopes is as long as the picture.
+third : (m a : ℕ) → m % 3 ≡ 0 → (t : Bool) → eqb (m / 3) a ≡ t
+    → when (not (eqb (m / 3) a)) 12 ≡ when (not (eqb m (3 * a))) 12
+third m a h true e =
+    let k = eqb-true (m / 3) a e in
+    rw (e, eq-eqb m (3 * a) (omega arith))
+third m a h false e =
+    let k = eqb-false (m / 3) a e in
+    rw (e, ne-eqb m (3 * a) (λ u. k (omega arith)))
+
+module _ (g : D.Grid) (m : ℕ) where
+  pub slopes-odd : (m % 3 ≡ 0 → ⊥) → 12 ≡ slopeFault g m
+  slopes-odd h = rw (ne-eqb m (3 * (g .width * g .height)) (λ e. h (omega arith)))
+
+  pub slopes-even : m % 3 ≡ 0 → lengthFault true g (m / 3) ≡ slopeFault g m
+  unfolding pictureSize
+  slopes-even h = third m (g .width * g .height) h (eqb (m / 3) (g .width * g .height)) refl
 
 pub work-short : (m : ℕ) → m < D.workLimit → 13 ≡ workFault m
 work-short m h = rw (lt-ltb m D.workLimit h)

@@ -16,6 +16,7 @@ use Rattle.packing.specs.Packing.{copyFault}
 use Rattle.formula_rules.specs.FormulaReader.{reader}
 use Rattle.formula.specs.Says.{textFault, answerBytes, inFront}
 use Rattle.netpbm.specs.Files.{fileFault}
+use Rattle.rules.specs.Slopes.{slopesOf}
 use Rattle.rules.specs.Probes.{probeFault, probedValue}
 use Rattle.probe.specs.Points.{pointIn}
 use Rattle.probe.specs.Sides.{probeOf, sideNumber, sideValue}
@@ -114,3 +115,32 @@ pub record SidedSays (s : List ℕ) (p : Point) (r : Sided) : Type 0 where
   pub answer : Answered (probeFault s (pointIn p)) (readTape s .place) 0 (r .answer)
   pub side : r .side ≡ sideNumber (probeOf (probeFault s (pointIn p)) (probedValue s (pointIn p)))
   pub value : r .value ≡ sideValue (probeOf (probeFault s (pointIn p)) (probedValue s (pointIn p)))
+
+-- "a slope buffer not of three a pixel counts under 12"; m its length.
+abbrev pub slopeFault : D.Grid → ℕ → ℕ
+slopeFault g m = when (not (eqb m (3 * (g .width * g .height)))) 12
+
+-- Lines 1 to 11, 12 for the picture and for the slopes, 13.
+abbrev pub slopeLines : List ℕ → D.Grid → ℕ → ℕ → ℕ → List ℕ
+slopeLines s g n m k = drawLines true s g n ++ (slopeFault g m ∷ (workFault k ∷ []))
+
+abbrev pub slopesFault : List ℕ → D.Grid → ℕ → ℕ → ℕ → ℕ
+slopesFault s g n m k = firstFault (slopeLines s g n m k)
+
+-- The solid drawing by tiles with slopes: picture, count and work buffer as without them; "three slopes per pixel at
+-- the visible sample", those of the full tape. "Slopes add nothing to the count."
+pub record SlopesSay (s : List ℕ) (d : Grid) (o o′ : List ℕ) (p p′ : List ℤ) (w w′ : List ℕ) (r : Answer)
+    : Type 0 where
+  pub answer : let g = gridIn d true in
+      let n = slopesFault s g (length o) (length p) (length w) in
+      Answered n (readTape s .place) (D.walked (readTape s .tape) g .clauses) r
+  pub pixels : let g = gridIn d true in
+      let n = slopesFault s g (length o) (length p) (length w) in
+      o′ ≡ written n (picture true g (D.walked (readTape s .tape) g .heights)) o
+  pub slopes : let g = gridIn d true in
+      let t = readTape s .tape in
+      let n = slopesFault s g (length o) (length p) (length w) in
+      p′ ≡ written n (slopesOf t g (D.walked t g .heights)) p
+  pub work : let g = gridIn d true in
+      let n = slopesFault s g (length o) (length p) (length w) in
+      w′ ≡ written n (replicate (length w) 0) w

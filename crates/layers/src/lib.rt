@@ -1,6 +1,7 @@
 // The public calls. Each checks what it is lent, in the scope paper's order, and then calls.
 mod flat;
 mod probing;
+mod sloped;
 mod solid;
 mod steps;
 
@@ -12,6 +13,7 @@ pub use probing::Probed;
 pub use probing::Sided;
 pub use probing::probe;
 pub use probing::probe_side;
+pub use sloped::tile_slopes;
 pub use solid::draw_solid;
 pub use solid::tile_solid;
 ghost use mathlib.Core.Path.{_≡_};

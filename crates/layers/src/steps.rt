@@ -3,10 +3,11 @@
 use crate::WORK_LIMIT;
 use picture::grid::Grid;
 ghost use mathlib.Core.Path.{_≡_};
+ghost use mathlib.Core.Bool.{true};
 ghost use Rattle.rules.specs.Values.{firstFault};
 ghost use Rattle.rules.specs.Pictures.{pictureSize};
 ghost use Rattle.picture.specs.Shapes.{gridIn};
-ghost use Rattle.layers.specs.Says.{lengthFault, workFault};
+ghost use Rattle.layers.specs.Says.{lengthFault, slopeFault, workFault};
 
 pub fn first_fault(lines: &[u8]) -> u8
     ensures { λ r. ⌜ r ≡ firstFault (now (lines .entry)) ⌝ }
@@ -41,6 +42,17 @@ pub fn length_fault(solid: bool, grid: Grid, length: usize) -> u8
         return 12;
     }
     0
+}
+
+// Line 12, of slopes of some length, three a pixel. Three times a refused grid's pixels can leave 64 bits, so the
+// length is divided.
+pub fn slope_fault(grid: Grid, length: usize) -> u8
+    ensures { λ r. ⌜ r ≡ slopeFault (gridIn grid true) length ⌝ }
+{
+    if length % 3 == 0 {
+        return length_fault(true, grid, length / 3);
+    }
+    12
 }
 
 // Line 13, of a work buffer of some length.

@@ -7,7 +7,7 @@ use picture::grid::Grid;
 use probe::point::Point;
 ghost use mathlib.Core.Bool.{true, false};
 ghost use Rattle.layers.specs.Says.{PackSays, UnpackSays, FullSays, TilesSay, BitmapSays, HeightsSay};
-ghost use Rattle.layers.specs.Says.{SidedSays, TextAnswered};
+ghost use Rattle.layers.specs.Says.{SidedSays, SlopesSay, TextAnswered};
 
 #[no_mangle]
 pub extern "C" fn layers_pack_tape(slots: u32, list: &[i32], out: &mut [u8]) -> Answer
@@ -61,6 +61,20 @@ pub extern "C" fn layers_tile_solid(
         (now (work .entry)) (now (work .exit)) r ⌝ }
 {
     layers::tile_solid(tape, grid, picture, work)
+}
+
+#[no_mangle]
+pub extern "C" fn layers_tile_slopes(
+    tape: &[u8],
+    grid: Grid,
+    picture: &mut [u16],
+    slopes: &mut [i32],
+    work: &mut [u8],
+) -> Answer
+    ensures { λ r. ⌜ SlopesSay (now (tape .entry)) grid (now (picture .entry)) (now (picture .exit))
+        (now (slopes .entry)) (now (slopes .exit)) (now (work .entry)) (now (work .exit)) r ⌝ }
+{
+    layers::tile_slopes(tape, grid, picture, slopes, work)
 }
 
 #[no_mangle]

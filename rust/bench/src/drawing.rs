@@ -25,6 +25,8 @@ pub struct Canvas {
     pub grid: Grid,
     pub bits: Vec<u8>,
     pub heights: Vec<u16>,
+    /// Three a pixel of a solid.
+    pub slopes: Vec<i32>,
     work: Vec<u8>,
 }
 
@@ -36,7 +38,8 @@ impl Canvas {
             Kind::Solid => (0, width * height),
         };
         // what the buffers held must not matter
-        Canvas { kind, grid, bits: vec![0xA5; bytes], heights: vec![0xA5A5; numbers], work: vec![0; raw::WORK] }
+        let (bits, heights, slopes) = (vec![0xA5; bytes], vec![0xA5A5; numbers], vec![-7; 3 * numbers]);
+        Canvas { kind, grid, bits, heights, slopes, work: vec![0; raw::WORK] }
     }
 
     /// Draws the tape, and returns the count of clauses.
@@ -54,7 +57,18 @@ impl Canvas {
         answer.count
     }
 
+    /// Draws a solid with its slopes, by the core's tiles or by the plain walk.
+    pub fn draw_slopes(&mut self, way: Way, tape: &Tape) -> u64 {
+        let (tape, grid) = (tape.as_bytes(), self.grid);
+        if way == Way::Plain {
+            return plain::tile_slopes(tape, grid, &mut self.heights, &mut self.slopes);
+        }
+        let answer = raw::tile_slopes(tape, grid, &mut self.heights, &mut self.slopes, &mut self.work);
+        assert_eq!(answer.number, 0, "refused at clause {}", answer.place);
+        answer.count
+    }
+
     pub fn same_picture(&self, other: &Canvas) -> bool {
-        self.bits == other.bits && self.heights == other.heights
+        self.bits == other.bits && self.heights == other.heights && self.slopes == other.slopes
     }
 }

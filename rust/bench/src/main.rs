@@ -1,5 +1,6 @@
 //! `bench` prints a table of times: the core's tiles beside the plain walk and the full drawing.
 //! `bench tiles|plain|full flat|solid NAME` draws one part once, for a profiler.
+//! `bench slopes` prints a table of times of solids with slopes beside those without.
 //! `bench lengths` prints a table of the lengths of short tapes.
 
 use bench::drawing::{Canvas, Kind, Way};
@@ -12,9 +13,10 @@ fn main() {
     let words: Vec<String> = std::env::args().skip(1).collect();
     match words.iter().map(String::as_str).collect::<Vec<_>>()[..] {
         [] => table(),
+        ["slopes"] => slopes(),
         ["lengths"] => lengths(),
         [way, kind, name] => once(way, kind, name),
-        _ => panic!("usage: bench [lengths | tiles|plain|full flat|solid NAME]"),
+        _ => panic!("usage: bench [slopes | lengths | tiles|plain|full flat|solid NAME]"),
     }
 }
 
@@ -34,8 +36,12 @@ fn once(way: &str, kind: &str, name: &str) {
     println!("{}", canvas.draw(way, &part.tape));
 }
 
+fn runs() -> usize {
+    std::env::var("BENCH_RUNS").map_or(9, |text| text.parse().expect("BENCH_RUNS is a number"))
+}
+
 fn table() {
-    let runs = std::env::var("BENCH_RUNS").map_or(9, |text| text.parse().expect("BENCH_RUNS is a number"));
+    let runs = runs();
     println!(
         "Least of {runs} or more runs, tiles and plain in turn; 'in turn' is the median of the ratios in each turn."
     );
@@ -86,6 +92,44 @@ fn print_row(part: &Part, size: &str, [tiles, plain]: [Times; 2], full: Option<f
         tiles.over(&plain),
         per_clause(tiles_ms),
         per_clause(plain_ms),
+    );
+}
+
+/// What slopes add to the drawing of a solid, in the core and in the plain walk.
+fn slopes() {
+    println!("128³, least of {} or more runs, all four in turn; ratios are medians of those in each turn.\n", runs());
+    println!(
+        "| part | clauses | tiles ms | with slopes ms | with / without | plain ms | with slopes ms | with / without | tiles / plain, with slopes |"
+    );
+    println!("|---|--:|--:|--:|--:|--:|--:|--:|--:|");
+    parts::all().iter().for_each(slopes_row);
+}
+
+fn slopes_row(part: &Part) {
+    let tape = &part.tape;
+    let [mut a, mut b, mut c, mut d] = [0; 4].map(|_| Canvas::new(Kind::Solid, part.solid));
+    let counts = [b.draw_slopes(Way::Tiles, tape), d.draw_slopes(Way::Plain, tape), a.draw(Way::Tiles, tape)];
+    assert!(counts == [counts[0]; 3] && b.same_picture(&d), "the slopes of {}", part.name);
+    let [tiles, sloped, plain, plain_sloped] = in_turn(
+        runs(),
+        [
+            &mut || a.draw(Way::Tiles, tape),
+            &mut || b.draw_slopes(Way::Tiles, tape),
+            &mut || c.draw(Way::Plain, tape),
+            &mut || d.draw_slopes(Way::Plain, tape),
+        ],
+    );
+    println!(
+        "| {} | {} | {:.2} | {:.2} | {:.2} | {:.2} | {:.2} | {:.2} | {:.2} |",
+        part.name,
+        part.clauses(),
+        tiles.least(),
+        sloped.least(),
+        sloped.over(&tiles),
+        plain.least(),
+        plain_sloped.least(),
+        plain_sloped.over(&plain),
+        sloped.over(&plain_sloped),
     );
 }
 

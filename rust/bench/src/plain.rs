@@ -7,10 +7,12 @@ mod flat;
 mod lanes;
 mod run;
 mod shorten;
+mod slopes;
 mod solid;
 mod word;
 
 pub use flat::{short_lengths, tile_flat};
+pub use slopes::tile_slopes;
 pub use solid::tile_solid;
 pub use word::words;
 

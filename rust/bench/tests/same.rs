@@ -25,6 +25,11 @@ fn same(part: &Part, kind: Kind, grid: Grid) {
     let counts = [tiles.draw(Way::Tiles, &part.tape), plain.draw(Way::Plain, &part.tape)];
     assert_eq!(counts[0], counts[1], "the counts of {} on {grid:?}", part.name);
     assert!(tiles.same_picture(&plain), "the pictures of {} on {grid:?}", part.name);
+    if kind == Kind::Solid {
+        let sloped = [tiles.draw_slopes(Way::Tiles, &part.tape), plain.draw_slopes(Way::Plain, &part.tape)];
+        assert_eq!(sloped, counts, "the counts of {} with slopes on {grid:?}", part.name);
+        assert!(tiles.same_picture(&plain), "the slopes of {} on {grid:?}", part.name);
+    }
 }
 
 #[test]

@@ -27,10 +27,11 @@ impl Sloping {
 
     /// Any accepted drawing.
     pub fn random(r: &mut Random) -> Self {
-        Sloping::new(match r.below(5) {
-            0 => Drawing::random(r),
-            1 => Drawing::arithmetic(r),
-            2 => Drawing::shapes(r),
+        Sloping::new(match r.below(12) {
+            0 | 1 => Drawing::random(r),
+            2 | 3 => Drawing::arithmetic(r),
+            4 | 5 => Drawing::shapes(r),
+            6 => Drawing::wide(r),
             _ => of_all_opcodes(r),
         })
     }

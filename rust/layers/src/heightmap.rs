@@ -3,7 +3,7 @@
 use crate::drawing::{assert_inside, sizes};
 use crate::lend::filled;
 use crate::raw::{self, Answer};
-use crate::{Drawn, Grid, Refusal, Tape, Work, netpbm};
+use crate::{Drawn, Grid, Refusal, Slopes, Tape, Work, netpbm};
 
 /// A part seen from above: for each pixel 1 + the greatest z index with material, or 0 where there is none.
 ///
@@ -40,6 +40,31 @@ impl Heightmap {
     /// Draws by running the whole tape at every sample.
     pub fn draw_full(tape: &Tape, grid: Grid) -> Result<Drawn<Heightmap>, Refusal> {
         Heightmap::drawn(grid, |picture| raw::draw_solid(tape.as_bytes(), grid, picture))
+    }
+
+    /// Draws by tiles, and with the heights the slopes of the formula where the part is seen: what a viewer shades by.
+    /// Heights and count are those of [`draw`](Heightmap::draw).
+    ///
+    /// ```
+    /// use layers::{fixed, Clause, Grid, Heightmap, Tape, ONE};
+    ///
+    /// // the ramp z − x/2: a step to the right rises by a half
+    /// let ramp = [Clause::x(0), Clause::constant(1, fixed(0.5)), Clause::multiply(0, 0, 1), Clause::z(1),
+    ///     Clause::subtract(0, 1, 0)];
+    /// let tape = Tape::from_clauses(2, &ramp)?;
+    /// let (drawn, slopes) = Heightmap::draw_with_slopes(&tape, Grid::solid(4, 1, 4))?;
+    /// assert_eq!(drawn.picture.as_slice(), [0, 1, 1, 2]);
+    /// assert_eq!(slopes.slopes_at(0, 0), [0, 0, 0]);
+    /// assert_eq!(slopes.slopes_at(1, 0), [-ONE / 2, 0, ONE]);
+    /// # Ok::<(), layers::Refusal>(())
+    /// ```
+    pub fn draw_with_slopes(tape: &Tape, grid: Grid) -> Result<(Drawn<Heightmap>, Slopes), Refusal> {
+        let (width, height) = sizes(grid);
+        let mut slopes = vec![0; 3 * width * height];
+        let drawn = Heightmap::drawn(grid, |picture| {
+            raw::tile_slopes(tape.as_bytes(), grid, picture, &mut slopes, Work::new().lend())
+        })?;
+        Ok((drawn, Slopes::new(grid.width, grid.height, slopes)))
     }
 
     fn drawn(grid: Grid, call: impl FnOnce(&mut [u16]) -> Answer) -> Result<Drawn<Heightmap>, Refusal> {
@@ -126,6 +151,20 @@ mod tests {
         }
     }
 
+    /// z − x − 1: as many slopes as axes are read.
+    #[test]
+    fn slopes_come_with_the_same_heights_and_count() {
+        for width in [10, 70, 100] {
+            let grid = Grid::solid(width, 20, 90).origin(crate::fixed(-5.0), 0, 0);
+            let (drawn, slopes) = Heightmap::draw_with_slopes(&stairs(), grid).unwrap();
+            assert_eq!(drawn, Heightmap::draw(&stairs(), grid).unwrap());
+            let expected = drawn.picture.as_slice().iter().map(|&h| if h > 0 { [-65_536, 0, 65_536] } else { [0; 3] });
+            assert_eq!(slopes.as_slice(), expected.collect::<Vec<_>>().concat());
+            assert_eq!(slopes.slopes_at(0, 0), [0; 3]);
+            assert_eq!(slopes.slopes_at(width - 1, 19), [-65_536, 0, 65_536]);
+        }
+    }
+
     #[test]
     fn sizes_pass_up_to_the_limit() {
         let map = Heightmap::draw(&stairs(), Grid::solid(1, 1, 512).origin(i32::MAX, 0, 0).step(1, 1, 1)).unwrap();
@@ -134,6 +173,8 @@ mod tests {
             let grid = Grid::solid(width, width, depth);
             assert_eq!(Heightmap::draw(&stairs(), grid), Err(Refusal::SizeOutOfRange), "{width} deep {depth}");
             assert_eq!(Heightmap::draw_full(&stairs(), grid), Err(Refusal::SizeOutOfRange), "{width} deep {depth}");
+            let sloped = Heightmap::draw_with_slopes(&stairs(), grid);
+            assert_eq!(sloped, Err(Refusal::SizeOutOfRange), "{width} deep {depth}");
         }
     }
 

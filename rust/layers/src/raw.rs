@@ -1,8 +1,8 @@
 //! The calls as the core has them: lent slices in, an answer by number out. The C interface is include/layers.h's. All
 //! unsafe code is here.
 //!
-//! Done, a call has written the whole output or picture and cleared the whole work buffer; a text's tape alone leaves
-//! what is behind it. Refused, it has changed nothing.
+//! Done, a call has written the whole output, picture or slopes and cleared the whole work buffer; a text's tape alone
+//! leaves what is behind it. Refused, it has changed nothing.
 
 /// What comes back of every call. [`into_result`](Answer::into_result) makes Rust's own form of it.
 #[repr(C)]
@@ -119,6 +119,17 @@ unsafe extern "C" {
         work: *mut u8,
         work_len: usize,
     ) -> Answer;
+    fn layers_tile_slopes(
+        tape: *const u8,
+        tape_len: usize,
+        grid: Grid,
+        picture: *mut u16,
+        picture_len: usize,
+        slopes: *mut i32,
+        slopes_len: usize,
+        work: *mut u8,
+        work_len: usize,
+    ) -> Answer;
     fn layers_write_bitmap(
         width: u32,
         height: u32,
@@ -186,6 +197,24 @@ pub fn tile_solid(tape: &[u8], grid: Grid, picture: &mut [u16], work: &mut [u8])
             grid,
             picture.as_mut_ptr(),
             picture.len(),
+            work.as_mut_ptr(),
+            work.len(),
+        )
+    }
+}
+
+/// The picture and the count of [`tile_solid`], and three slopes a pixel: how much the formula grows along x, y and z at
+/// the visible sample, in units of 1/65,536 for each 1; three zeros where the height is 0.
+pub fn tile_slopes(tape: &[u8], grid: Grid, picture: &mut [u16], slopes: &mut [i32], work: &mut [u8]) -> Answer {
+    unsafe {
+        layers_tile_slopes(
+            tape.as_ptr(),
+            tape.len(),
+            grid,
+            picture.as_mut_ptr(),
+            picture.len(),
+            slopes.as_mut_ptr(),
+            slopes.len(),
             work.as_mut_ptr(),
             work.len(),
         )

@@ -117,9 +117,9 @@ refusals! {
     11 SampleOutOfRange, "a step below 1, or an origin, z or last sample outside −2,147,483,647 to 2,147,483,647",
         "steps must be 1 or more, and the origin and the last sample of each axis, half a step beyond where its cell \
          begins, {LEAST} to {GREATEST}: move the grid, or take smaller steps";
-    12 PictureLength, "picture buffer not of the exact length",
-        "the picture buffer has the wrong length: a bitmap has width / 8 bytes, rounded up, for each row, \
-         a heightmap one height for each pixel";
+    12 PictureLength, "picture or slope buffer not of the exact length",
+        "the picture or slope buffer has the wrong length: a bitmap has width / 8 bytes, rounded up, for each row, \
+         a heightmap one height for each pixel, slopes three numbers for each pixel";
     13 WorkLength, "work buffer below 32,768 bytes",
         "the work buffer is too short: it needs {WORK} bytes";
     14 OutputLength, "packing, unpacking, text or file: output not of the exact length",
@@ -227,6 +227,13 @@ mod tests {
         assert_eq!(tile(2, WORK), Ok(1));
         assert_eq!(tile(3, WORK), Err(Refusal::PictureLength));
         assert_eq!(tile(2, WORK - 1), Err(Refusal::WorkLength));
+        let sloped = |picture: usize, slopes: usize, work: usize| {
+            let (grid, mut lent) = (Grid::solid(3, 2, 1), (vec![0; picture], vec![0; slopes], vec![0; work]));
+            raw::tile_slopes(tape.as_bytes(), grid, &mut lent.0, &mut lent.1, &mut lent.2).into_result()
+        };
+        assert_eq!(sloped(6, 18, WORK), Ok(1));
+        assert_eq!([(5, 18), (6, 17), (6, 6)].map(|(p, s)| sloped(p, s, 0)), [Err(Refusal::PictureLength); 3]);
+        assert_eq!(sloped(6, 18, WORK - 1), Err(Refusal::WorkLength));
         assert_eq!(raw::unpack_tape(tape.as_bytes(), &mut [0; 4]).answer.into_result(), Err(Refusal::OutputLength));
     }
 

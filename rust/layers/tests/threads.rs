@@ -1,6 +1,6 @@
 //! The public types go from thread to thread, and threads share them.
 
-use layers::{Bitmap, Clause, Drawn, Grid, Heightmap, ONE, Opcode, Refusal, Tape, Work, fixed, raw};
+use layers::{Bitmap, Clause, Drawn, Grid, Heightmap, ONE, Opcode, Refusal, Slopes, Tape, Work, fixed, raw};
 use std::thread;
 
 fn shared<T: Send + Sync + 'static>() {}
@@ -15,6 +15,7 @@ fn every_type_is_send_and_sync() {
     shared::<Heightmap>();
     shared::<Opcode>();
     shared::<Refusal>();
+    shared::<Slopes>();
     shared::<Tape>();
     shared::<Work>();
     shared::<raw::Answer>();

@@ -1,8 +1,8 @@
 //! Pictures of the parts, drawn by the core.
 
 use crate::Part;
-use layers::{Bitmap, Drawn, Grid, Heightmap, Refusal};
-use preview::view::{bitmap_png, heights_png};
+use layers::{Bitmap, Drawn, Grid, Heightmap, Refusal, Slopes};
+use preview::view::{bitmap_png, slopes_png};
 
 /// The flat picture.
 pub fn flat(part: &Part) -> Drawn<Bitmap> {
@@ -14,7 +14,12 @@ pub fn solid(part: &Part, grid: Grid) -> Drawn<Heightmap> {
     drawn(part, Heightmap::draw(&part.tape, grid))
 }
 
-fn drawn<T>(part: &Part, picture: Result<Drawn<T>, Refusal>) -> Drawn<T> {
+/// The same with the slopes at the visible samples.
+pub fn sloped(part: &Part, grid: Grid) -> (Drawn<Heightmap>, Slopes) {
+    drawn(part, Heightmap::draw_with_slopes(&part.tape, grid))
+}
+
+fn drawn<T>(part: &Part, picture: Result<T, Refusal>) -> T {
     picture.unwrap_or_else(|refusal| panic!("{}: {refusal}", part.name))
 }
 
@@ -28,12 +33,13 @@ pub fn flat_png(part: &Part) -> Vec<u8> {
 /// The side of the solid picture's file; the program's own limit for a solid is 128.
 const FINE: u32 = 512;
 
-/// The solid's box in finer samples, shaded.
+/// The solid's box in finer samples, lit by its slopes.
 pub fn solid_png(part: &Part) -> Vec<u8> {
     let grid = part.solid_at(FINE);
     let seen = seen(grid);
-    let values = solid(part, grid).picture.into_vec();
-    heights_png(&preview::Heights { width: seen.width, height: seen.height, values }, &seen)
+    let (drawn, slopes) = sloped(part, grid);
+    let values = drawn.picture.into_vec();
+    slopes_png(&preview::Heights { width: seen.width, height: seen.height, values }, slopes.as_slice(), &seen)
 }
 
 /// What a preview needs of a grid.

@@ -1,7 +1,7 @@
 //! PNG files of pictures, small pictures enlarged.
 
 use crate::png::png;
-use crate::shade::shades;
+use crate::shade::{lit, shades};
 use crate::{Bitmap, Fault, Grid, Heights, Picture};
 use std::iter::repeat_n;
 
@@ -37,9 +37,18 @@ pub fn bitmap_png(bitmap: &Bitmap) -> Vec<u8> {
     png(pixels.width as u32, pixels.height as u32, 1, &rows)
 }
 
-/// A solid, shaded: eight bits a pixel.
+/// A solid, shaded by its heights: eight bits a pixel.
 pub fn heights_png(heights: &Heights, grid: &Grid) -> Vec<u8> {
-    let pixels = Pixels { width: heights.width, height: heights.height, values: shades(heights, grid) }.enlarged();
+    greys_png(heights, shades(heights, grid))
+}
+
+/// A solid, lit by its slopes, three a pixel: eight bits a pixel.
+pub fn slopes_png(heights: &Heights, slopes: &[i32], grid: &Grid) -> Vec<u8> {
+    greys_png(heights, lit(heights, slopes, grid))
+}
+
+fn greys_png(heights: &Heights, values: Vec<u8>) -> Vec<u8> {
+    let pixels = Pixels { width: heights.width, height: heights.height, values }.enlarged();
     png(pixels.width as u32, pixels.height as u32, 8, &pixels.values)
 }
 

@@ -13,7 +13,7 @@ use slow::text::OUTPUT;
 const THREAD: usize = 8 * 1024;
 
 /// So many clauses in so many slots: minima and maxima of x, y and z, then x added, so that the part ends within tiles.
-fn mixed(slots: u32, count: i32) -> List {
+pub fn mixed(slots: u32, count: i32) -> List {
     let n = slots as i32;
     let axes = (0..n).map(|slot| [1 + slot % 3, slot, 0, 0, 0]);
     let sides = (n..count - 2).map(|i| [12 + i % 2, i % n, (i + 1) % n, (i + 2) % n, 0]);
@@ -24,12 +24,13 @@ fn mixed(slots: u32, count: i32) -> List {
     List { slots, clauses }
 }
 
-/// Draws the tape, flat and solid, in a thread of its own. Samples are run, so that every level is entered.
+/// Draws the tape, flat, solid and with slopes, in a thread of its own. Samples are run, so that every level is entered.
 fn runs_on(stack: usize, list: List) {
     let grid = Grid { sizes: [90, 70, 70], origins: [-43_300, -43_300, 0], steps: [1000; 3] };
     let drawing = Drawing::new(list.tape(), grid);
     let core = drawing.core_grid();
     let (mut flat, mut solid, mut work) = (vec![0u8; drawing.flat], vec![0u16; drawing.solid], vec![0; drawing.work]);
+    let mut slopes = vec![0; 3 * drawing.solid];
     seen::take();
     let a = tile(&drawing.tape, &grid, &mut flat, &mut work);
     let b = tile(&drawing.tape, &grid, &mut solid, &mut work);
@@ -38,10 +39,11 @@ fn runs_on(stack: usize, list: List) {
     let draw = move || {
         let a = layers::raw::tile_flat(&drawing.tape, core, &mut flat, &mut work);
         let b = layers::raw::tile_solid(&drawing.tape, core, &mut solid, &mut work);
-        [answer(a), answer(b)]
+        let c = layers::raw::tile_slopes(&drawing.tape, core, &mut solid, &mut slopes, &mut work);
+        [answer(a), answer(b), answer(c)]
     };
     let thread = std::thread::Builder::new().stack_size(stack + THREAD).spawn(draw).expect("a thread");
-    assert_eq!(thread.join().expect("no overflow"), [a, b]);
+    assert_eq!(thread.join().expect("no overflow"), [a, b, b]);
 }
 
 /// Probes in a thread of its own.

@@ -1,8 +1,8 @@
 //! What is seen in the files.
 
 use crate::decoder::{Decoded, decode};
-use preview::shade::shades;
-use preview::view::view;
+use preview::shade::{lit, shades};
+use preview::view::{slopes_png, view};
 use preview::{Bitmap, Fault, Grid, Heights, Picture};
 
 fn layer(width: usize, height: usize) -> Grid {
@@ -106,6 +106,66 @@ fn the_steps_of_the_grid_make_the_slope() {
     assert_eq!(away(Grid { ystep: 2, ..grid }), away(grid));
     assert_eq!(down(Grid { zstep: 2, ystep: 2, ..grid }), down(grid));
     assert!(down(Grid { ystep: 2, ..grid }) > down(grid));
+}
+
+/// The greys of a solid whose pixels all have the same slopes.
+fn lit_alike(grid: Grid, values: Vec<u16>, slopes: [i32; 3]) -> Vec<u8> {
+    let slopes = slopes.repeat(values.len());
+    lit(&Heights { width: grid.width, height: grid.height, values }, &slopes, &grid)
+}
+
+/// As by the heights, in shades of 1/250.
+#[test]
+fn slopes_light_level_ground_alike() {
+    for (height, grey) in [(0, 255), (1, 116), (50, 150), (100, 185)] {
+        for slopes in [[0, 0, 65_536], [0, 0, 1], [0, 0, i32::MAX], [0; 3]] {
+            assert_eq!(lit_alike(solid(3, 2, 100), vec![height; 6], slopes), [grey; 6]);
+        }
+    }
+}
+
+/// By the formula of the shading: 0.12 + 0.62 · 0.775 · facing. Slopes point out of the part.
+#[test]
+fn slopes_are_lit_from_the_upper_left() {
+    let grey = |slopes: [i32; 3]| lit_alike(solid(1, 1, 10), vec![5], slopes)[0];
+    let ways = [[-1, 0, 1], [1, 0, 1], [0, -1, 1], [0, 1, 1], [0, 0, -1]];
+    assert_eq!(ways.map(grey), [153, 77, 162, 68, 30]);
+    for way in ways {
+        assert_eq!(grey(way.map(|slope| slope * 40_000)), grey(way));
+    }
+}
+
+/// The slopes of a side face close by, where a pixel is as high as those around it, and where it stands alone.
+#[test]
+fn a_side_face_does_not_darken_level_ground() {
+    let side = [65_536, 0, 100];
+    assert_eq!(lit_alike(solid(3, 3, 10), vec![5; 9], side), [150; 9]);
+    assert_eq!(lit_alike(solid(3, 1, 10), vec![5, 4, 3], side), [30; 3]);
+    // slopes of 45 degrees are those of the surface
+    assert_eq!(lit_alike(solid(3, 3, 10), vec![5; 9], [1, 0, 1]), [77; 9]);
+}
+
+/// A pillar's shadow falls to the right and down.
+#[test]
+fn what_is_higher_casts_a_shadow() {
+    let grid = solid(21, 21, 40);
+    let mut values = vec![1; 21 * 21];
+    values[10 * 21 + 10] = 20;
+    let greys = lit_alike(grid, values, [0, 0, 1]);
+    let (open, dark) = (greys[0], greys[11 * 21 + 11]);
+    assert!(dark < open);
+    assert_eq!([9 * 21 + 9, 11 * 21 + 9, 9 * 21 + 11, 20 * 21 + 20].map(|index| greys[index]), [open; 4]);
+    // 19 layers less two end after 9 rows: the light is 0.55 rows further up for each layer
+    let shaded = greys.iter().filter(|grey| **grey == dark).count();
+    assert!((7..=11).contains(&shaded), "{shaded}");
+}
+
+#[test]
+fn a_lit_solid_is_enlarged() {
+    let (heights, grid) = (Heights { width: 2, height: 1, values: vec![0, 10] }, solid(2, 1, 10));
+    let file = decode(&slopes_png(&heights, &[0, 0, 0, 0, 0, 7], &grid)).unwrap();
+    assert_eq!((file.width, file.height, file.bits), (384, 192, 8));
+    enlarges(&file, 192, |column, _| [255, 185][column]);
 }
 
 #[test]

@@ -1,0 +1,182 @@
+-- The walk of the unpacked words is the tape's, and so are the slopes at its heights.
+use borrow.Author.Needs.{needs}
+use mathlib.Core.Path.{_≡_, refl, sym, _∙_}
+use mathlib.Core.Bool.{true}
+use native.Mathlib.Omega.{arith}
+use lib.ListN.{length}
+use lib.Seq.{length-take-le}
+use Rattle.picture.specs.Shapes.{gridIn}
+use Rattle.layers.specs.Sizes.{TilesOf}
+use Rattle.layers.proofs.StepLaws.{solid-size}
+use Rattle.layers.proofs.Drawing.{words-room, words-few, words-within, sound, tiles-of}
+use Rattle.layers.proofs.Sloping.{walked-heights, slopes-of}
+use Rattle.layers.proofs.sloped.slope_words.Statement.{statement}
+use Rattle.layers.proofs.sloped.slope_words.Tie as tie
+
+-- The places: the start, once the words are there, before and after the walk, and before and after the slopes.
+abbrev begun : tie.After-unpack-words-arg → tie.Start
+begun c = c .before .before .before .before .before .before .before .before .before .before .before .before
+
+abbrev start : tie.After-unpack-words → tie.Start
+start c = begun (c .before)
+
+abbrev unpacked : tie.After-tile-solid-arg10 → tie.After-unpack-words
+unpacked c = c .before .before .before .before .before .before .before .before .before .before .before .before
+
+abbrev walked : tie.After-slice-known20 → tie.After-tile-solid
+walked c = c .before .before .before .before .before .before .before .before .before .before .before .before .before .before .before .before .before .before
+
+abbrev lent : tie.After-shade-arg9 → tie.After-tile-solid
+lent c = walked (c .before .before .before .before .before .before .before .before .before)
+
+abbrev shaded : tie.After-slice-known26 → tie.After-shade
+shaded c = c .before .before .before .before .before .before .before .before .before .before .before .before .before
+
+long : (c : tie.After-unpack-words) → length (c .unpack-words .last .1 .0) ≡ length (start c .args .words .now)
+long c = c .unpack-words .kept .1 .0
+
+tiles : (v : tie.After-tile-solid)
+    → (let a = start (unpacked (v .before)) .args in
+    TilesOf true (a .tape .now) (gridIn (a .grid) true) (v .tile-solid .last .1 .1 .1 .0) (v .tile-solid .result))
+tiles v =
+    let u = unpacked (v .before) in
+    tiles-of (start u .pre .0) (u .unpack-words .ensures) (long u) (v .tile-solid .ensures)
+
+unpack-words-requires : tie.Need-unpack-words-requires
+unpack-words-requires c κs = let d = begun c .pre .0 in record { accepted = d .read; room = d .room }
+
+slice-reshare-prefix-tile-solid : tie.Need-slice-reshare-prefix-tile-solid
+slice-reshare-prefix-tile-solid c =
+    let u = c .before .before in words-room (start u .pre .0) (u .unpack-words .ensures) (long u)
+
+slice-aggregate-tile-solid : tie.Need-slice-aggregate-tile-solid
+slice-aggregate-tile-solid c = sym (length-take-le _ _ (slice-reshare-prefix-tile-solid (c .before)))
+
+tile-solid-requires : tie.Need-tile-solid-requires
+tile-solid-requires c κs =
+    let u = unpacked c in
+    let d = start u .pre .0 in
+    let r = start u .pre .1 .1 in
+    let o = u .unpack-words .ensures in
+    let h = long u in
+    let few = words-few d o h in
+    let within = words-within d o h in (
+      sound d o h,
+      (
+        record { fault = d .grid; size = d .size ∙ sym (solid-size true _ refl) },
+        (omega arith, (omega arith, omega arith, omega arith, omega arith, omega arith, omega arith, omega arith)),
+      ),
+    )
+
+slice-reshare-prefix-shade : tie.Need-slice-reshare-prefix-shade
+slice-reshare-prefix-shade c =
+    let u = unpacked (walked c .before) in words-room (start u .pre .0) (u .unpack-words .ensures) (long u)
+
+slice-aggregate-shade : tie.Need-slice-aggregate-shade
+slice-aggregate-shade c = sym (length-take-le _ _ (slice-reshare-prefix-shade (c .before)))
+
+shade-requires : tie.Need-shade-requires
+shade-requires c κs =
+    let v = lent c in
+    let u = unpacked (v .before) in
+    let d = start u .pre .0 in
+    let p = start u .pre .1 in
+    let r = p .1 in
+    let o = u .unpack-words .ensures in
+    let h = long u in
+    let few = words-few d o h in
+    let within = words-within d o h in
+    let k = v .tile-solid .kept .1 in
+    let picture = k .1 .1 .0 in
+    let places = k .0 in
+    let work = k .1 .1 .1 .0 in
+    let first = k .1 .1 .1 .1 .0 in
+    let firstplaces = k .1 .1 .1 .1 .1 .0 in
+    let second = k .1 .1 .1 .1 .1 .1 .0 in
+    let secondplaces = k .1 .1 .1 .1 .1 .1 .1 .0 in (
+      sound d o h,
+      (
+        record {
+          heights = record {
+            fault = d .grid;
+            size = picture ∙ d .size ∙ sym (solid-size true _ refl);
+            most = walked-heights d (tiles v);
+          };
+          slopes = p .0;
+        },
+        (
+          omega (arith, places, within, r .1 .0),
+          (
+            omega (arith, work, few, r .0),
+            omega (arith, first, within, r .1 .1),
+            omega (arith, first, firstplaces, r .1 .1, r .1 .2),
+            omega (arith, second, within, r .1 .3),
+            omega (arith, second, secondplaces, r .1 .3, r .1 .4),
+          ),
+        ),
+      ),
+    )
+
+same-length : tie.Need-same-length
+same-length c = search needs
+
+same-length-2 : tie.Need-same-length-2
+same-length-2 c = search needs
+
+same-length-3 : tie.Need-same-length-3
+same-length-3 c = search needs
+
+same-length-4 : tie.Need-same-length-4
+same-length-4 c = long (unpacked (lent (shaded c .before) .before))
+
+same-length-5 : tie.Need-same-length-5
+same-length-5 c = search needs
+
+same-length-6 : tie.Need-same-length-6
+same-length-6 c = search needs
+
+same-length-7 : tie.Need-same-length-7
+same-length-7 c = search needs
+
+same-length-8 : tie.Need-same-length-8
+same-length-8 c = search needs
+
+same-length-9 : tie.Need-same-length-9
+same-length-9 c = search needs
+
+same-length-10 : tie.Need-same-length-10
+same-length-10 c = search needs
+
+same-length-11 : tie.Need-same-length-11
+same-length-11 c = search needs
+
+returns : tie.Need-returns
+returns c =
+    let s = shaded c in
+    let v = lent (s .before) in
+    let u = unpacked (v .before) in
+    slopes-of (start u .pre .0) (u .unpack-words .ensures) (long u) (tiles v) (s .shade .ensures)
+
+pub slope-words-spec : {M : Type 1} → statement M
+slope-words-spec =
+    tie.close
+    (tie.spec
+    unpack-words-requires
+    slice-reshare-prefix-tile-solid
+    slice-aggregate-tile-solid
+    tile-solid-requires
+    slice-reshare-prefix-shade
+    slice-aggregate-shade
+    shade-requires
+    same-length
+    same-length-2
+    same-length-3
+    same-length-4
+    same-length-5
+    same-length-6
+    same-length-7
+    same-length-8
+    same-length-9
+    same-length-10
+    same-length-11
+    returns)

@@ -1,0 +1,167 @@
+// Side 4: blocks of side 4 in one of side 16, in the same window of layers, each with its own short tape.
+use crate::block::Block;
+use crate::block::Layers;
+use crate::block::top_in;
+use crate::narrow::narrow;
+use crate::pixels::shade_rows;
+use picture::grid::Grid;
+use shortening::marks::mark_room;
+use tape::SLOT_LIMIT;
+use walk::cell::lesser;
+ghost use mathlib.Core.Path.{_≡_};
+ghost use Prim.Native.Nat.{_≤_};
+ghost use lib.ListN.{length};
+ghost use Rattle.rules.specs.Tapes.{slotLimit};
+ghost use Rattle.walk.specs.Walks.{Level, MarksFit};
+ghost use Rattle.shading.specs.Shades.{Fits, BlockIn, LayersIn, Shading};
+
+fn visit_four(
+    whole: &[u64],
+    code: &[u64],
+    places: &[u16],
+    grid: Grid,
+    block: Block,
+    window: Layers,
+    picture: &[u16],
+    slopes: &mut [i32],
+    work: &mut [u8],
+    second: &mut [u64],
+    secondplaces: &mut [u16],
+    slots: &mut [[i32; 4]; SLOT_LIMIT],
+)
+    requires { ⌜ Level (now whole) (now code) (now places) ⌝ }
+    requires { ⌜ Fits grid (now picture) (now slopes) ⌝ }
+    requires { ⌜ BlockIn grid block ⌝ }
+    requires { ⌜ MarksFit 2 (now whole) (now work)
+        × (length (now whole) ≤ length (now second)) × (length (now secondplaces) ≡ length (now second)) ⌝ }
+    requires { ⌜ LayersIn grid window ⌝ }
+    requires { ⌜ length (now slots) ≡ slotLimit ⌝ }
+    ensures { λ _. ⌜ Shading (now (code .entry)) grid (now (picture .entry)) window block block
+        (now (slopes .entry)) (now (slopes .exit)) ⌝ }
+    ensures { λ _. ⌜ length (now (slots .exit)) ≡ slotLimit ⌝ }
+{
+    let top = top_in(picture, grid, block, window.end);
+    if top <= window.from {
+        return;
+    }
+    let base = whole.len() + mark_room(whole.len());
+    let start = narrow(
+        whole,
+        code,
+        places,
+        grid,
+        block,
+        window,
+        work,
+        base,
+        second,
+        secondplaces,
+    );
+    let short = &second[start..];
+    shade_rows(short, grid, picture, slopes, block, window, slots);
+}
+
+// One row of blocks, as high as they are.
+fn four_row(
+    whole: &[u64],
+    code: &[u64],
+    places: &[u16],
+    grid: Grid,
+    row: Block,
+    window: Layers,
+    picture: &[u16],
+    slopes: &mut [i32],
+    work: &mut [u8],
+    second: &mut [u64],
+    secondplaces: &mut [u16],
+    slots: &mut [[i32; 4]; SLOT_LIMIT],
+)
+    requires { ⌜ Level (now whole) (now code) (now places) ⌝ }
+    requires { ⌜ Fits grid (now picture) (now slopes) ⌝ }
+    requires { ⌜ BlockIn grid row ⌝ }
+    requires { ⌜ MarksFit 2 (now whole) (now work)
+        × (length (now whole) ≤ length (now second)) × (length (now secondplaces) ≡ length (now second)) ⌝ }
+    requires { ⌜ LayersIn grid window ⌝ }
+    requires { ⌜ length (now slots) ≡ slotLimit ⌝ }
+    ensures { λ _. ⌜ Shading (now (code .entry)) grid (now (picture .entry)) window row row
+        (now (slopes .entry)) (now (slopes .exit)) ⌝ }
+    ensures { λ _. ⌜ length (now (slots .exit)) ≡ slotLimit ⌝ }
+{
+    let mut x = row.x;
+    while x < row.xend {
+        let xend = lesser(row.xend, x + 4);
+        let block = Block {
+            x: x,
+            xend: xend,
+            y: row.y,
+            yend: row.yend,
+        };
+        visit_four(
+            whole,
+            code,
+            places,
+            grid,
+            block,
+            window,
+            picture,
+            slopes,
+            work,
+            second,
+            secondplaces,
+            slots,
+        );
+        x = xend;
+    }
+}
+
+pub fn four_rows(
+    whole: &[u64],
+    code: &[u64],
+    places: &[u16],
+    grid: Grid,
+    block: Block,
+    window: Layers,
+    picture: &[u16],
+    slopes: &mut [i32],
+    work: &mut [u8],
+    second: &mut [u64],
+    secondplaces: &mut [u16],
+    slots: &mut [[i32; 4]; SLOT_LIMIT],
+)
+    requires { ⌜ Level (now whole) (now code) (now places) ⌝ }
+    requires { ⌜ Fits grid (now picture) (now slopes) ⌝ }
+    requires { ⌜ BlockIn grid block ⌝ }
+    requires { ⌜ MarksFit 2 (now whole) (now work)
+        × (length (now whole) ≤ length (now second)) × (length (now secondplaces) ≡ length (now second)) ⌝ }
+    requires { ⌜ LayersIn grid window ⌝ }
+    requires { ⌜ length (now slots) ≡ slotLimit ⌝ }
+    ensures { λ _. ⌜ Shading (now (code .entry)) grid (now (picture .entry)) window block block
+        (now (slopes .entry)) (now (slopes .exit)) ⌝ }
+    ensures { λ _. ⌜ length (now (slots .exit)) ≡ slotLimit ⌝ }
+{
+    let mut y = block.y;
+    while y < block.yend {
+        let yend = lesser(block.yend, y + 4);
+        let row = Block {
+            x: block.x,
+            xend: block.xend,
+            y: y,
+            yend: yend,
+        };
+        four_row(
+            whole,
+            code,
+            places,
+            grid,
+            row,
+            window,
+            picture,
+            slopes,
+            work,
+            second,
+            secondplaces,
+            slots,
+        );
+        y = yend;
+    }
+}

@@ -1,0 +1,57 @@
+// The short tape of a block: of the box that its visible samples lie in.
+use crate::block::Block;
+use crate::block::Layers;
+use code::run::run_ranges;
+use fixed::clause::Bounds;
+use picture::grid::Grid;
+use shortening::cut::cut;
+use walk::cell::span;
+ghost use mathlib.Core.Path.{_≡_};
+ghost use mathlib.Core.Bool.{true};
+ghost use Prim.Native.Nat.{_+_, _≤_};
+ghost use lib.ListN.{length};
+ghost use Rattle.rules.specs.Drawings.{gridFault};
+ghost use Rattle.fixed.specs.Shapes.{boxIn};
+ghost use Rattle.shortening.specs.Kept.{markRoom};
+ghost use Rattle.picture.specs.Shapes.{gridIn};
+ghost use Rattle.walk.specs.Walks.{Level};
+ghost use Rattle.shading.specs.Shades.{BlockIn, LayersIn, BlockBox, Narrowed};
+
+fn bounds(grid: Grid, block: Block, layers: Layers) -> Bounds
+    requires { ⌜ gridFault true (gridIn grid true) ≡ 0 ⌝ }
+    requires { ⌜ BlockIn grid block ⌝ }
+    requires { ⌜ LayersIn grid layers ⌝ }
+    ensures { λ r. ⌜ BlockBox grid block layers (boxIn r) ⌝ }
+{
+    Bounds {
+        xs: span(grid.xorigin, grid.xstep, block.x, block.xend),
+        ys: span(grid.yorigin, grid.ystep, block.y, block.yend),
+        zs: span(grid.zorigin, grid.zstep, layers.from, layers.end),
+    }
+}
+
+// Returned is where the block's words and places start.
+pub fn narrow(
+    whole: &[u64],
+    code: &[u64],
+    places: &[u16],
+    grid: Grid,
+    block: Block,
+    layers: Layers,
+    work: &mut [u8],
+    base: usize,
+    next: &mut [u64],
+    nextplaces: &mut [u16],
+) -> usize
+    requires { ⌜ Level (now whole) (now code) (now places) ⌝ }
+    requires { ⌜ gridFault true (gridIn grid true) ≡ 0 ⌝ }
+    requires { ⌜ BlockIn grid block ⌝ }
+    requires { ⌜ LayersIn grid layers ⌝ }
+    requires { ⌜ (length (now whole) ≤ base) × (base + markRoom (length (now whole)) ≤ length (now work)) ⌝ }
+    requires { ⌜ (length (now whole) ≤ length (now next)) × (length (now nextplaces) ≡ length (now next)) ⌝ }
+    ensures { λ r. ⌜ Narrowed (now (whole .entry)) (now (code .entry)) grid block layers
+        (now (next .exit)) (now (nextplaces .exit)) r ⌝ }
+{
+    run_ranges(code, bounds(grid, block, layers), work);
+    cut(whole, code, places, work, base, next, nextplaces)
+}

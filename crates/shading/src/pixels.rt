@@ -1,0 +1,122 @@
+// The pixels of a block, each run on values with slopes at its visible sample.
+use crate::block::Block;
+use crate::block::Layers;
+use fixed::clause::Sample;
+use picture::grid::Grid;
+use picture::grid::sample;
+use slopes::run::run_slopes;
+use tape::SLOT_LIMIT;
+ghost use mathlib.Core.Path.{_≡_};
+ghost use lib.IntN.{pos};
+ghost use Prim.Native.Nat.{_+_, _*_, _<_, _≤_};
+ghost use lib.ListN.{length, replicate};
+ghost use Rattle.rules.specs.Tapes.{slotLimit};
+ghost use Rattle.walk.specs.Walks.{Sound};
+ghost use Rattle.shading.specs.Shades.{putAt, Fits, BlockIn, pixelAt, rowOf, Shading};
+
+// The slopes of a picture without material.
+pub fn clear(slopes: &mut [i32])
+    ensures { λ _. ⌜ now (slopes .exit) ≡ replicate (length (now (slopes .entry))) (pos 0) ⌝ }
+{
+    let mut i = 0;
+    while i < slopes.len() {
+        slopes[i] = 0;
+        i += 1;
+    }
+}
+
+// Three numbers at the place of the pixel `at`.
+fn put(slopes: &mut [i32], at: usize, x: i32, y: i32, z: i32)
+    requires { ⌜ (3 * at + 2 < length (now slopes)) × (at < 262144) ⌝ }
+    ensures { λ _. ⌜ now (slopes .exit) ≡ putAt (now (slopes .entry)) at x y z ⌝ }
+{
+    slopes[3 * at] = x;
+    slopes[3 * at + 1] = y;
+    slopes[3 * at + 2] = z;
+}
+
+// Left alone if its height is not in the window.
+fn shade_pixel(
+    code: &[u64],
+    grid: Grid,
+    picture: &[u16],
+    slopes: &mut [i32],
+    x: u32,
+    y: u32,
+    window: Layers,
+    slots: &mut [[i32; 4]; SLOT_LIMIT],
+)
+    requires { ⌜ Sound (now code) ⌝ }
+    requires { ⌜ Fits grid (now picture) (now slopes) ⌝ }
+    requires { ⌜ (x < grid .width) × (y < grid .height) ⌝ }
+    requires { ⌜ length (now slots) ≡ slotLimit ⌝ }
+    ensures { λ _. ⌜ Shading (now (code .entry)) grid (now (picture .entry)) window (pixelAt x y) (pixelAt x y)
+        (now (slopes .entry)) (now (slopes .exit)) ⌝ }
+    ensures { λ _. ⌜ length (now (slots .exit)) ≡ slotLimit ⌝ }
+{
+    let at = (y * grid.width + x) as usize;
+    let height = picture[at] as u32;
+    if height <= window.from {
+        return;
+    }
+    if window.end < height {
+        return;
+    }
+    let s = Sample {
+        x: sample(grid.xorigin, grid.xstep, x),
+        y: sample(grid.yorigin, grid.ystep, y),
+        z: sample(grid.zorigin, grid.zstep, height - 1),
+    };
+    let found = run_slopes(code, s, slots);
+    put(slopes, at, found.x, found.y, found.z);
+}
+
+fn shade_row(
+    code: &[u64],
+    grid: Grid,
+    picture: &[u16],
+    slopes: &mut [i32],
+    block: Block,
+    y: u32,
+    window: Layers,
+    slots: &mut [[i32; 4]; SLOT_LIMIT],
+)
+    requires { ⌜ Sound (now code) ⌝ }
+    requires { ⌜ Fits grid (now picture) (now slopes) ⌝ }
+    requires { ⌜ BlockIn grid block ⌝ }
+    requires { ⌜ (block .y ≤ y) × (y < block .yend) ⌝ }
+    requires { ⌜ length (now slots) ≡ slotLimit ⌝ }
+    ensures { λ _. ⌜ Shading (now (code .entry)) grid (now (picture .entry)) window (rowOf block y) (rowOf block y)
+        (now (slopes .entry)) (now (slopes .exit)) ⌝ }
+    ensures { λ _. ⌜ length (now (slots .exit)) ≡ slotLimit ⌝ }
+{
+    let mut x = block.x;
+    while x < block.xend {
+        shade_pixel(code, grid, picture, slopes, x, y, window, slots);
+        x += 1;
+    }
+}
+
+pub fn shade_rows(
+    code: &[u64],
+    grid: Grid,
+    picture: &[u16],
+    slopes: &mut [i32],
+    block: Block,
+    window: Layers,
+    slots: &mut [[i32; 4]; SLOT_LIMIT],
+)
+    requires { ⌜ Sound (now code) ⌝ }
+    requires { ⌜ Fits grid (now picture) (now slopes) ⌝ }
+    requires { ⌜ BlockIn grid block ⌝ }
+    requires { ⌜ length (now slots) ≡ slotLimit ⌝ }
+    ensures { λ _. ⌜ Shading (now (code .entry)) grid (now (picture .entry)) window block block
+        (now (slopes .entry)) (now (slopes .exit)) ⌝ }
+    ensures { λ _. ⌜ length (now (slots .exit)) ≡ slotLimit ⌝ }
+{
+    let mut y = block.y;
+    while y < block.yend {
+        shade_row(code, grid, picture, slopes, block, y, window, slots);
+        y += 1;
+    }
+}

@@ -1,0 +1,280 @@
+// Side 16: blocks of side 16 of the picture, with a short tape for each window of layers, which the blocks of side 4
+// start from; and the whole picture.
+use crate::block::Block;
+use crate::block::Layers;
+use crate::block::top_in;
+use crate::fours::four_rows;
+use crate::narrow::narrow;
+use crate::pixels::clear;
+use picture::grid::Grid;
+use shortening::expand::whole_places;
+use tape::SLOT_LIMIT;
+use walk::cell::lesser;
+ghost use mathlib.Core.Path.{_≡_};
+ghost use Prim.Native.Nat.{_≤_};
+ghost use lib.ListN.{length};
+ghost use Rattle.rules.specs.Tapes.{slotLimit};
+ghost use Rattle.walk.specs.Walks.{Sound, Level, MarksFit};
+ghost use Rattle.shading.specs.Shades.{Fits, allOf, BlockIn, LayersIn, Shading, Shaded};
+
+// The pixels of a block whose heights lie in a window.
+fn shade_window(
+    whole: &[u64],
+    places: &[u16],
+    grid: Grid,
+    block: Block,
+    window: Layers,
+    picture: &[u16],
+    slopes: &mut [i32],
+    work: &mut [u8],
+    first: &mut [u64],
+    firstplaces: &mut [u16],
+    second: &mut [u64],
+    secondplaces: &mut [u16],
+    slots: &mut [[i32; 4]; SLOT_LIMIT],
+)
+    requires { ⌜ Level (now whole) (now whole) (now places) ⌝ }
+    requires { ⌜ Fits grid (now picture) (now slopes) ⌝ }
+    requires { ⌜ BlockIn grid block ⌝ }
+    requires { ⌜ MarksFit 2 (now whole) (now work)
+        × (length (now whole) ≤ length (now first)) × (length (now firstplaces) ≡ length (now first))
+        × (length (now whole) ≤ length (now second)) × (length (now secondplaces) ≡ length (now second)) ⌝ }
+    requires { ⌜ LayersIn grid window ⌝ }
+    requires { ⌜ length (now slots) ≡ slotLimit ⌝ }
+    ensures { λ _. ⌜ Shading (now (whole .entry)) grid (now (picture .entry)) window block block
+        (now (slopes .entry)) (now (slopes .exit)) ⌝ }
+    ensures { λ _. ⌜ length (now (slots .exit)) ≡ slotLimit ⌝ }
+{
+    let start = narrow(
+        whole,
+        whole,
+        places,
+        grid,
+        block,
+        window,
+        work,
+        whole.len(),
+        first,
+        firstplaces,
+    );
+    let short = &first[start..];
+    let shortplaces = &firstplaces[start..];
+    four_rows(
+        whole,
+        short,
+        shortplaces,
+        grid,
+        block,
+        window,
+        picture,
+        slopes,
+        work,
+        second,
+        secondplaces,
+        slots,
+    );
+}
+
+// Windows of 16 layers, from the greatest height down: heights that no pixel has are passed over.
+fn visit_sixteen(
+    whole: &[u64],
+    places: &[u16],
+    grid: Grid,
+    block: Block,
+    picture: &[u16],
+    slopes: &mut [i32],
+    work: &mut [u8],
+    first: &mut [u64],
+    firstplaces: &mut [u16],
+    second: &mut [u64],
+    secondplaces: &mut [u16],
+    slots: &mut [[i32; 4]; SLOT_LIMIT],
+)
+    requires { ⌜ Level (now whole) (now whole) (now places) ⌝ }
+    requires { ⌜ Fits grid (now picture) (now slopes) ⌝ }
+    requires { ⌜ BlockIn grid block ⌝ }
+    requires { ⌜ MarksFit 2 (now whole) (now work)
+        × (length (now whole) ≤ length (now first)) × (length (now firstplaces) ≡ length (now first))
+        × (length (now whole) ≤ length (now second)) × (length (now secondplaces) ≡ length (now second)) ⌝ }
+    requires { ⌜ length (now slots) ≡ slotLimit ⌝ }
+    ensures { λ _. ⌜ Shading (now (whole .entry)) grid (now (picture .entry)) (allOf grid) block block
+        (now (slopes .entry)) (now (slopes .exit)) ⌝ }
+    ensures { λ _. ⌜ length (now (slots .exit)) ≡ slotLimit ⌝ }
+{
+    let mut top = top_in(picture, grid, block, grid.depth);
+    while 0 < top {
+        let from = top - lesser(top, 16);
+        let window = Layers {
+            from: from,
+            end: top,
+        };
+        shade_window(
+            whole,
+            places,
+            grid,
+            block,
+            window,
+            picture,
+            slopes,
+            work,
+            first,
+            firstplaces,
+            second,
+            secondplaces,
+            slots,
+        );
+        top = top_in(picture, grid, block, from);
+    }
+}
+
+// One row of blocks, as high as they are.
+fn sixteen_row(
+    whole: &[u64],
+    places: &[u16],
+    grid: Grid,
+    row: Block,
+    picture: &[u16],
+    slopes: &mut [i32],
+    work: &mut [u8],
+    first: &mut [u64],
+    firstplaces: &mut [u16],
+    second: &mut [u64],
+    secondplaces: &mut [u16],
+    slots: &mut [[i32; 4]; SLOT_LIMIT],
+)
+    requires { ⌜ Level (now whole) (now whole) (now places) ⌝ }
+    requires { ⌜ Fits grid (now picture) (now slopes) ⌝ }
+    requires { ⌜ BlockIn grid row ⌝ }
+    requires { ⌜ MarksFit 2 (now whole) (now work)
+        × (length (now whole) ≤ length (now first)) × (length (now firstplaces) ≡ length (now first))
+        × (length (now whole) ≤ length (now second)) × (length (now secondplaces) ≡ length (now second)) ⌝ }
+    requires { ⌜ length (now slots) ≡ slotLimit ⌝ }
+    ensures { λ _. ⌜ Shading (now (whole .entry)) grid (now (picture .entry)) (allOf grid) row row
+        (now (slopes .entry)) (now (slopes .exit)) ⌝ }
+    ensures { λ _. ⌜ length (now (slots .exit)) ≡ slotLimit ⌝ }
+{
+    let mut x = row.x;
+    while x < row.xend {
+        let xend = lesser(row.xend, x + 16);
+        let block = Block {
+            x: x,
+            xend: xend,
+            y: row.y,
+            yend: row.yend,
+        };
+        visit_sixteen(
+            whole,
+            places,
+            grid,
+            block,
+            picture,
+            slopes,
+            work,
+            first,
+            firstplaces,
+            second,
+            secondplaces,
+            slots,
+        );
+        x = xend;
+    }
+}
+
+fn sixteen_rows(
+    whole: &[u64],
+    places: &[u16],
+    grid: Grid,
+    block: Block,
+    picture: &[u16],
+    slopes: &mut [i32],
+    work: &mut [u8],
+    first: &mut [u64],
+    firstplaces: &mut [u16],
+    second: &mut [u64],
+    secondplaces: &mut [u16],
+    slots: &mut [[i32; 4]; SLOT_LIMIT],
+)
+    requires { ⌜ Level (now whole) (now whole) (now places) ⌝ }
+    requires { ⌜ Fits grid (now picture) (now slopes) ⌝ }
+    requires { ⌜ BlockIn grid block ⌝ }
+    requires { ⌜ MarksFit 2 (now whole) (now work)
+        × (length (now whole) ≤ length (now first)) × (length (now firstplaces) ≡ length (now first))
+        × (length (now whole) ≤ length (now second)) × (length (now secondplaces) ≡ length (now second)) ⌝ }
+    requires { ⌜ length (now slots) ≡ slotLimit ⌝ }
+    ensures { λ _. ⌜ Shading (now (whole .entry)) grid (now (picture .entry)) (allOf grid) block block
+        (now (slopes .entry)) (now (slopes .exit)) ⌝ }
+    ensures { λ _. ⌜ length (now (slots .exit)) ≡ slotLimit ⌝ }
+{
+    let mut y = block.y;
+    while y < block.yend {
+        let yend = lesser(block.yend, y + 16);
+        let row = Block {
+            x: block.x,
+            xend: block.xend,
+            y: y,
+            yend: yend,
+        };
+        sixteen_row(
+            whole,
+            places,
+            grid,
+            row,
+            picture,
+            slopes,
+            work,
+            first,
+            firstplaces,
+            second,
+            secondplaces,
+            slots,
+        );
+        y = yend;
+    }
+}
+
+// The slopes of the whole picture, whatever the list held. The buffers of the levels are lent.
+pub fn shade(
+    whole: &[u64],
+    places: &mut [u16],
+    grid: Grid,
+    picture: &[u16],
+    slopes: &mut [i32],
+    work: &mut [u8],
+    first: &mut [u64],
+    firstplaces: &mut [u16],
+    second: &mut [u64],
+    secondplaces: &mut [u16],
+)
+    requires { ⌜ Sound (now whole) ⌝ }
+    requires { ⌜ Fits grid (now picture) (now slopes) ⌝ }
+    requires { ⌜ length (now whole) ≤ length (now places) ⌝ }
+    requires { ⌜ MarksFit 2 (now whole) (now work)
+        × (length (now whole) ≤ length (now first)) × (length (now firstplaces) ≡ length (now first))
+        × (length (now whole) ≤ length (now second)) × (length (now secondplaces) ≡ length (now second)) ⌝ }
+    ensures { λ _. ⌜ Shaded (now (whole .entry)) grid (now (picture .entry)) (now (slopes .exit)) ⌝ }
+{
+    let n = whole.len();
+    whole_places(places, n);
+    clear(slopes);
+    let mut slots = [[0i32; 4]; SLOT_LIMIT];
+    let all = Block {
+        x: 0,
+        xend: grid.width,
+        y: 0,
+        yend: grid.height,
+    };
+    sixteen_rows(
+        whole,
+        &places[..n],
+        grid,
+        all,
+        picture,
+        slopes,
+        work,
+        first,
+        firstplaces,
+        second,
+        secondplaces,
+        &mut slots,
+    );
+}
