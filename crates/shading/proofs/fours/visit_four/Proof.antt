@@ -22,8 +22,8 @@ in-case c = c .before .before .before .before .before
 abbrev narrowed : tie.After-slice-known6 → tie.After-narrow
 narrowed c = c .before .before .before .before .before .before
 
-abbrev lent : tie.After-shade-rows-arg2 → tie.After-slice-known6
-lent c = c .before .before .before .before
+abbrev lent : tie.After-shade-rows-arg5 → tie.After-slice-known6
+lent c = c .before .before .before .before .before .before .before
 
 top-in-requires : tie.Need-top-in-requires
 top-in-requires c κs = let p = begun c .pre .1 in (p .0 .heights, p .1 .0)
