@@ -47,6 +47,10 @@ fn visit_four(
     if top <= window.from {
         return;
     }
+    let tight = Layers {
+        from: window.from,
+        end: top,
+    };
     let base = whole.len() + mark_room(whole.len());
     let start = narrow(
         whole,
@@ -54,14 +58,25 @@ fn visit_four(
         places,
         grid,
         block,
-        window,
+        tight,
         work,
         base,
         second,
         secondplaces,
     );
     let short = &second[start..];
-    shade_rows(short, grid, picture, slopes, block, window, values, xs, ys, zs);
+    shade_rows(
+        short,
+        grid,
+        picture,
+        slopes,
+        block,
+        tight,
+        values,
+        xs,
+        ys,
+        zs,
+    );
 }
 
 // One row of blocks, as high as they are.

@@ -98,7 +98,19 @@ fn shade_row(
 {
     let mut x = block.x;
     while x < block.xend {
-        shade_pixel(code, grid, picture, slopes, x, y, window, values, xs, ys, zs);
+        shade_pixel(
+            code,
+            grid,
+            picture,
+            slopes,
+            x,
+            y,
+            window,
+            values,
+            xs,
+            ys,
+            zs,
+        );
         x += 1;
     }
 }
@@ -125,7 +137,19 @@ pub fn shade_rows(
 {
     let mut y = block.y;
     while y < block.yend {
-        shade_row(code, grid, picture, slopes, block, y, window, values, xs, ys, zs);
+        shade_row(
+            code,
+            grid,
+            picture,
+            slopes,
+            block,
+            y,
+            window,
+            values,
+            xs,
+            ys,
+            zs,
+        );
         y += 1;
     }
 }
