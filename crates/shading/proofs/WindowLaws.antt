@@ -41,6 +41,18 @@ module _ {ws : List ℕ} {grid : Grid} {h : List ℕ} {win : Layers} {c : Block}
   pub shading-nothing : r ≤ win .from → Shading ws grid h win c c b b
   shading-nothing l = shading-none c b (λ i j w s. omega (arith, v .all i j w (s .most), s .above, l))
 
+  -- A window may end at that height.
+  pub shading-tight : {b′ : List ℤ} → Shading ws grid h (layersAt (win .from) r) c c b b′ → Shading ws grid h win c c b b′
+  shading-tight {b′} s =
+      record {
+        shades = λ t o.
+            let p = s .shades t (alike-less win (layersAt (win .from) r) (omega arith) (v .most) o) in
+            record {
+              kept = p .kept;
+              done = λ i j w u. p .done i j w (record { above = u .above; most = v .all i j w (u .most) });
+            };
+      }
+
 -- The loop is at top: the heights above it are shaded.
 pub record AtTop (ws : List ℕ) (grid : Grid) (h : List ℕ) (c : Block) (b b′ : List ℤ) (top : ℕ) : Type 0 where
   pub in-grid : top ≤ grid .depth

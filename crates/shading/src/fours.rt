@@ -11,7 +11,7 @@ use walk::cell::lesser;
 ghost use mathlib.Core.Path.{_≡_};
 ghost use Prim.Native.Nat.{_≤_};
 ghost use lib.ListN.{length};
-ghost use Rattle.rules.specs.Tapes.{slotLimit};
+ghost use Rattle.slopes.specs.Shapes.{slotsOf, Sized};
 ghost use Rattle.walk.specs.Walks.{Level, MarksFit};
 ghost use Rattle.shading.specs.Shades.{Fits, BlockIn, LayersIn, Shading};
 
@@ -27,7 +27,10 @@ fn visit_four(
     work: &mut [u8],
     second: &mut [u64],
     secondplaces: &mut [u16],
-    slots: &mut [[i32; 4]; SLOT_LIMIT],
+    values: &mut [i32; SLOT_LIMIT],
+    xs: &mut [i32; SLOT_LIMIT],
+    ys: &mut [i32; SLOT_LIMIT],
+    zs: &mut [i32; SLOT_LIMIT],
 )
     requires { ⌜ Level (now whole) (now code) (now places) ⌝ }
     requires { ⌜ Fits grid (now picture) (now slopes) ⌝ }
@@ -35,15 +38,19 @@ fn visit_four(
     requires { ⌜ MarksFit 2 (now whole) (now work)
         × (length (now whole) ≤ length (now second)) × (length (now secondplaces) ≡ length (now second)) ⌝ }
     requires { ⌜ LayersIn grid window ⌝ }
-    requires { ⌜ length (now slots) ≡ slotLimit ⌝ }
+    requires { ⌜ Sized (slotsOf (now values) (now xs) (now ys) (now zs)) ⌝ }
     ensures { λ _. ⌜ Shading (now (code .entry)) grid (now (picture .entry)) window block block
         (now (slopes .entry)) (now (slopes .exit)) ⌝ }
-    ensures { λ _. ⌜ length (now (slots .exit)) ≡ slotLimit ⌝ }
+    ensures { λ _. ⌜ Sized (slotsOf (now (values .exit)) (now (xs .exit)) (now (ys .exit)) (now (zs .exit))) ⌝ }
 {
     let top = top_in(picture, grid, block, window.end);
     if top <= window.from {
         return;
     }
+    let tight = Layers {
+        from: window.from,
+        end: top,
+    };
     let base = whole.len() + mark_room(whole.len());
     let start = narrow(
         whole,
@@ -51,14 +58,25 @@ fn visit_four(
         places,
         grid,
         block,
-        window,
+        tight,
         work,
         base,
         second,
         secondplaces,
     );
     let short = &second[start..];
-    shade_rows(short, grid, picture, slopes, block, window, slots);
+    shade_rows(
+        short,
+        grid,
+        picture,
+        slopes,
+        block,
+        tight,
+        values,
+        xs,
+        ys,
+        zs,
+    );
 }
 
 // One row of blocks, as high as they are.
@@ -74,7 +92,10 @@ fn four_row(
     work: &mut [u8],
     second: &mut [u64],
     secondplaces: &mut [u16],
-    slots: &mut [[i32; 4]; SLOT_LIMIT],
+    values: &mut [i32; SLOT_LIMIT],
+    xs: &mut [i32; SLOT_LIMIT],
+    ys: &mut [i32; SLOT_LIMIT],
+    zs: &mut [i32; SLOT_LIMIT],
 )
     requires { ⌜ Level (now whole) (now code) (now places) ⌝ }
     requires { ⌜ Fits grid (now picture) (now slopes) ⌝ }
@@ -82,10 +103,10 @@ fn four_row(
     requires { ⌜ MarksFit 2 (now whole) (now work)
         × (length (now whole) ≤ length (now second)) × (length (now secondplaces) ≡ length (now second)) ⌝ }
     requires { ⌜ LayersIn grid window ⌝ }
-    requires { ⌜ length (now slots) ≡ slotLimit ⌝ }
+    requires { ⌜ Sized (slotsOf (now values) (now xs) (now ys) (now zs)) ⌝ }
     ensures { λ _. ⌜ Shading (now (code .entry)) grid (now (picture .entry)) window row row
         (now (slopes .entry)) (now (slopes .exit)) ⌝ }
-    ensures { λ _. ⌜ length (now (slots .exit)) ≡ slotLimit ⌝ }
+    ensures { λ _. ⌜ Sized (slotsOf (now (values .exit)) (now (xs .exit)) (now (ys .exit)) (now (zs .exit))) ⌝ }
 {
     let mut x = row.x;
     while x < row.xend {
@@ -108,7 +129,10 @@ fn four_row(
             work,
             second,
             secondplaces,
-            slots,
+            values,
+            xs,
+            ys,
+            zs,
         );
         x = xend;
     }
@@ -126,7 +150,10 @@ pub fn four_rows(
     work: &mut [u8],
     second: &mut [u64],
     secondplaces: &mut [u16],
-    slots: &mut [[i32; 4]; SLOT_LIMIT],
+    values: &mut [i32; SLOT_LIMIT],
+    xs: &mut [i32; SLOT_LIMIT],
+    ys: &mut [i32; SLOT_LIMIT],
+    zs: &mut [i32; SLOT_LIMIT],
 )
     requires { ⌜ Level (now whole) (now code) (now places) ⌝ }
     requires { ⌜ Fits grid (now picture) (now slopes) ⌝ }
@@ -134,10 +161,10 @@ pub fn four_rows(
     requires { ⌜ MarksFit 2 (now whole) (now work)
         × (length (now whole) ≤ length (now second)) × (length (now secondplaces) ≡ length (now second)) ⌝ }
     requires { ⌜ LayersIn grid window ⌝ }
-    requires { ⌜ length (now slots) ≡ slotLimit ⌝ }
+    requires { ⌜ Sized (slotsOf (now values) (now xs) (now ys) (now zs)) ⌝ }
     ensures { λ _. ⌜ Shading (now (code .entry)) grid (now (picture .entry)) window block block
         (now (slopes .entry)) (now (slopes .exit)) ⌝ }
-    ensures { λ _. ⌜ length (now (slots .exit)) ≡ slotLimit ⌝ }
+    ensures { λ _. ⌜ Sized (slotsOf (now (values .exit)) (now (xs .exit)) (now (ys .exit)) (now (zs .exit))) ⌝ }
 {
     let mut y = block.y;
     while y < block.yend {
@@ -160,7 +187,10 @@ pub fn four_rows(
             work,
             second,
             secondplaces,
-            slots,
+            values,
+            xs,
+            ys,
+            zs,
         );
         y = yend;
     }

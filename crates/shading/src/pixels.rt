@@ -10,7 +10,7 @@ ghost use mathlib.Core.Path.{_≡_};
 ghost use lib.IntN.{pos};
 ghost use Prim.Native.Nat.{_+_, _*_, _<_, _≤_};
 ghost use lib.ListN.{length, replicate};
-ghost use Rattle.rules.specs.Tapes.{slotLimit};
+ghost use Rattle.slopes.specs.Shapes.{slotsOf, Sized};
 ghost use Rattle.walk.specs.Walks.{Sound};
 ghost use Rattle.shading.specs.Shades.{putAt, Fits, BlockIn, pixelAt, rowOf, Shading};
 
@@ -44,15 +44,18 @@ fn shade_pixel(
     x: u32,
     y: u32,
     window: Layers,
-    slots: &mut [[i32; 4]; SLOT_LIMIT],
+    values: &mut [i32; SLOT_LIMIT],
+    xs: &mut [i32; SLOT_LIMIT],
+    ys: &mut [i32; SLOT_LIMIT],
+    zs: &mut [i32; SLOT_LIMIT],
 )
     requires { ⌜ Sound (now code) ⌝ }
     requires { ⌜ Fits grid (now picture) (now slopes) ⌝ }
     requires { ⌜ (x < grid .width) × (y < grid .height) ⌝ }
-    requires { ⌜ length (now slots) ≡ slotLimit ⌝ }
+    requires { ⌜ Sized (slotsOf (now values) (now xs) (now ys) (now zs)) ⌝ }
     ensures { λ _. ⌜ Shading (now (code .entry)) grid (now (picture .entry)) window (pixelAt x y) (pixelAt x y)
         (now (slopes .entry)) (now (slopes .exit)) ⌝ }
-    ensures { λ _. ⌜ length (now (slots .exit)) ≡ slotLimit ⌝ }
+    ensures { λ _. ⌜ Sized (slotsOf (now (values .exit)) (now (xs .exit)) (now (ys .exit)) (now (zs .exit))) ⌝ }
 {
     let at = (y * grid.width + x) as usize;
     let height = picture[at] as u32;
@@ -67,7 +70,7 @@ fn shade_pixel(
         y: sample(grid.yorigin, grid.ystep, y),
         z: sample(grid.zorigin, grid.zstep, height - 1),
     };
-    let found = run_slopes(code, s, slots);
+    let found = run_slopes(code, s, values, xs, ys, zs);
     put(slopes, at, found.x, found.y, found.z);
 }
 
@@ -79,20 +82,35 @@ fn shade_row(
     block: Block,
     y: u32,
     window: Layers,
-    slots: &mut [[i32; 4]; SLOT_LIMIT],
+    values: &mut [i32; SLOT_LIMIT],
+    xs: &mut [i32; SLOT_LIMIT],
+    ys: &mut [i32; SLOT_LIMIT],
+    zs: &mut [i32; SLOT_LIMIT],
 )
     requires { ⌜ Sound (now code) ⌝ }
     requires { ⌜ Fits grid (now picture) (now slopes) ⌝ }
     requires { ⌜ BlockIn grid block ⌝ }
     requires { ⌜ (block .y ≤ y) × (y < block .yend) ⌝ }
-    requires { ⌜ length (now slots) ≡ slotLimit ⌝ }
+    requires { ⌜ Sized (slotsOf (now values) (now xs) (now ys) (now zs)) ⌝ }
     ensures { λ _. ⌜ Shading (now (code .entry)) grid (now (picture .entry)) window (rowOf block y) (rowOf block y)
         (now (slopes .entry)) (now (slopes .exit)) ⌝ }
-    ensures { λ _. ⌜ length (now (slots .exit)) ≡ slotLimit ⌝ }
+    ensures { λ _. ⌜ Sized (slotsOf (now (values .exit)) (now (xs .exit)) (now (ys .exit)) (now (zs .exit))) ⌝ }
 {
     let mut x = block.x;
     while x < block.xend {
-        shade_pixel(code, grid, picture, slopes, x, y, window, slots);
+        shade_pixel(
+            code,
+            grid,
+            picture,
+            slopes,
+            x,
+            y,
+            window,
+            values,
+            xs,
+            ys,
+            zs,
+        );
         x += 1;
     }
 }
@@ -104,19 +122,34 @@ pub fn shade_rows(
     slopes: &mut [i32],
     block: Block,
     window: Layers,
-    slots: &mut [[i32; 4]; SLOT_LIMIT],
+    values: &mut [i32; SLOT_LIMIT],
+    xs: &mut [i32; SLOT_LIMIT],
+    ys: &mut [i32; SLOT_LIMIT],
+    zs: &mut [i32; SLOT_LIMIT],
 )
     requires { ⌜ Sound (now code) ⌝ }
     requires { ⌜ Fits grid (now picture) (now slopes) ⌝ }
     requires { ⌜ BlockIn grid block ⌝ }
-    requires { ⌜ length (now slots) ≡ slotLimit ⌝ }
+    requires { ⌜ Sized (slotsOf (now values) (now xs) (now ys) (now zs)) ⌝ }
     ensures { λ _. ⌜ Shading (now (code .entry)) grid (now (picture .entry)) window block block
         (now (slopes .entry)) (now (slopes .exit)) ⌝ }
-    ensures { λ _. ⌜ length (now (slots .exit)) ≡ slotLimit ⌝ }
+    ensures { λ _. ⌜ Sized (slotsOf (now (values .exit)) (now (xs .exit)) (now (ys .exit)) (now (zs .exit))) ⌝ }
 {
     let mut y = block.y;
     while y < block.yend {
-        shade_row(code, grid, picture, slopes, block, y, window, slots);
+        shade_row(
+            code,
+            grid,
+            picture,
+            slopes,
+            block,
+            y,
+            window,
+            values,
+            xs,
+            ys,
+            zs,
+        );
         y += 1;
     }
 }

@@ -13,7 +13,7 @@ use walk::cell::lesser;
 ghost use mathlib.Core.Path.{_≡_};
 ghost use Prim.Native.Nat.{_≤_};
 ghost use lib.ListN.{length};
-ghost use Rattle.rules.specs.Tapes.{slotLimit};
+ghost use Rattle.slopes.specs.Shapes.{slotsOf, Sized};
 ghost use Rattle.walk.specs.Walks.{Sound, Level, MarksFit};
 ghost use Rattle.shading.specs.Shades.{Fits, allOf, BlockIn, LayersIn, Shading, Shaded};
 
@@ -31,7 +31,10 @@ fn shade_window(
     firstplaces: &mut [u16],
     second: &mut [u64],
     secondplaces: &mut [u16],
-    slots: &mut [[i32; 4]; SLOT_LIMIT],
+    values: &mut [i32; SLOT_LIMIT],
+    xs: &mut [i32; SLOT_LIMIT],
+    ys: &mut [i32; SLOT_LIMIT],
+    zs: &mut [i32; SLOT_LIMIT],
 )
     requires { ⌜ Level (now whole) (now whole) (now places) ⌝ }
     requires { ⌜ Fits grid (now picture) (now slopes) ⌝ }
@@ -40,10 +43,10 @@ fn shade_window(
         × (length (now whole) ≤ length (now first)) × (length (now firstplaces) ≡ length (now first))
         × (length (now whole) ≤ length (now second)) × (length (now secondplaces) ≡ length (now second)) ⌝ }
     requires { ⌜ LayersIn grid window ⌝ }
-    requires { ⌜ length (now slots) ≡ slotLimit ⌝ }
+    requires { ⌜ Sized (slotsOf (now values) (now xs) (now ys) (now zs)) ⌝ }
     ensures { λ _. ⌜ Shading (now (whole .entry)) grid (now (picture .entry)) window block block
         (now (slopes .entry)) (now (slopes .exit)) ⌝ }
-    ensures { λ _. ⌜ length (now (slots .exit)) ≡ slotLimit ⌝ }
+    ensures { λ _. ⌜ Sized (slotsOf (now (values .exit)) (now (xs .exit)) (now (ys .exit)) (now (zs .exit))) ⌝ }
 {
     let start = narrow(
         whole,
@@ -71,7 +74,10 @@ fn shade_window(
         work,
         second,
         secondplaces,
-        slots,
+        values,
+        xs,
+        ys,
+        zs,
     );
 }
 
@@ -88,7 +94,10 @@ fn visit_sixteen(
     firstplaces: &mut [u16],
     second: &mut [u64],
     secondplaces: &mut [u16],
-    slots: &mut [[i32; 4]; SLOT_LIMIT],
+    values: &mut [i32; SLOT_LIMIT],
+    xs: &mut [i32; SLOT_LIMIT],
+    ys: &mut [i32; SLOT_LIMIT],
+    zs: &mut [i32; SLOT_LIMIT],
 )
     requires { ⌜ Level (now whole) (now whole) (now places) ⌝ }
     requires { ⌜ Fits grid (now picture) (now slopes) ⌝ }
@@ -96,10 +105,10 @@ fn visit_sixteen(
     requires { ⌜ MarksFit 2 (now whole) (now work)
         × (length (now whole) ≤ length (now first)) × (length (now firstplaces) ≡ length (now first))
         × (length (now whole) ≤ length (now second)) × (length (now secondplaces) ≡ length (now second)) ⌝ }
-    requires { ⌜ length (now slots) ≡ slotLimit ⌝ }
+    requires { ⌜ Sized (slotsOf (now values) (now xs) (now ys) (now zs)) ⌝ }
     ensures { λ _. ⌜ Shading (now (whole .entry)) grid (now (picture .entry)) (allOf grid) block block
         (now (slopes .entry)) (now (slopes .exit)) ⌝ }
-    ensures { λ _. ⌜ length (now (slots .exit)) ≡ slotLimit ⌝ }
+    ensures { λ _. ⌜ Sized (slotsOf (now (values .exit)) (now (xs .exit)) (now (ys .exit)) (now (zs .exit))) ⌝ }
 {
     let mut top = top_in(picture, grid, block, grid.depth);
     while 0 < top {
@@ -121,7 +130,10 @@ fn visit_sixteen(
             firstplaces,
             second,
             secondplaces,
-            slots,
+            values,
+            xs,
+            ys,
+            zs,
         );
         top = top_in(picture, grid, block, from);
     }
@@ -140,7 +152,10 @@ fn sixteen_row(
     firstplaces: &mut [u16],
     second: &mut [u64],
     secondplaces: &mut [u16],
-    slots: &mut [[i32; 4]; SLOT_LIMIT],
+    values: &mut [i32; SLOT_LIMIT],
+    xs: &mut [i32; SLOT_LIMIT],
+    ys: &mut [i32; SLOT_LIMIT],
+    zs: &mut [i32; SLOT_LIMIT],
 )
     requires { ⌜ Level (now whole) (now whole) (now places) ⌝ }
     requires { ⌜ Fits grid (now picture) (now slopes) ⌝ }
@@ -148,10 +163,10 @@ fn sixteen_row(
     requires { ⌜ MarksFit 2 (now whole) (now work)
         × (length (now whole) ≤ length (now first)) × (length (now firstplaces) ≡ length (now first))
         × (length (now whole) ≤ length (now second)) × (length (now secondplaces) ≡ length (now second)) ⌝ }
-    requires { ⌜ length (now slots) ≡ slotLimit ⌝ }
+    requires { ⌜ Sized (slotsOf (now values) (now xs) (now ys) (now zs)) ⌝ }
     ensures { λ _. ⌜ Shading (now (whole .entry)) grid (now (picture .entry)) (allOf grid) row row
         (now (slopes .entry)) (now (slopes .exit)) ⌝ }
-    ensures { λ _. ⌜ length (now (slots .exit)) ≡ slotLimit ⌝ }
+    ensures { λ _. ⌜ Sized (slotsOf (now (values .exit)) (now (xs .exit)) (now (ys .exit)) (now (zs .exit))) ⌝ }
 {
     let mut x = row.x;
     while x < row.xend {
@@ -174,7 +189,10 @@ fn sixteen_row(
             firstplaces,
             second,
             secondplaces,
-            slots,
+            values,
+            xs,
+            ys,
+            zs,
         );
         x = xend;
     }
@@ -192,7 +210,10 @@ fn sixteen_rows(
     firstplaces: &mut [u16],
     second: &mut [u64],
     secondplaces: &mut [u16],
-    slots: &mut [[i32; 4]; SLOT_LIMIT],
+    values: &mut [i32; SLOT_LIMIT],
+    xs: &mut [i32; SLOT_LIMIT],
+    ys: &mut [i32; SLOT_LIMIT],
+    zs: &mut [i32; SLOT_LIMIT],
 )
     requires { ⌜ Level (now whole) (now whole) (now places) ⌝ }
     requires { ⌜ Fits grid (now picture) (now slopes) ⌝ }
@@ -200,10 +221,10 @@ fn sixteen_rows(
     requires { ⌜ MarksFit 2 (now whole) (now work)
         × (length (now whole) ≤ length (now first)) × (length (now firstplaces) ≡ length (now first))
         × (length (now whole) ≤ length (now second)) × (length (now secondplaces) ≡ length (now second)) ⌝ }
-    requires { ⌜ length (now slots) ≡ slotLimit ⌝ }
+    requires { ⌜ Sized (slotsOf (now values) (now xs) (now ys) (now zs)) ⌝ }
     ensures { λ _. ⌜ Shading (now (whole .entry)) grid (now (picture .entry)) (allOf grid) block block
         (now (slopes .entry)) (now (slopes .exit)) ⌝ }
-    ensures { λ _. ⌜ length (now (slots .exit)) ≡ slotLimit ⌝ }
+    ensures { λ _. ⌜ Sized (slotsOf (now (values .exit)) (now (xs .exit)) (now (ys .exit)) (now (zs .exit))) ⌝ }
 {
     let mut y = block.y;
     while y < block.yend {
@@ -226,7 +247,10 @@ fn sixteen_rows(
             firstplaces,
             second,
             secondplaces,
-            slots,
+            values,
+            xs,
+            ys,
+            zs,
         );
         y = yend;
     }
@@ -256,7 +280,10 @@ pub fn shade(
     let n = whole.len();
     whole_places(places, n);
     clear(slopes);
-    let mut slots = [[0i32; 4]; SLOT_LIMIT];
+    let mut values = [0i32; SLOT_LIMIT];
+    let mut xs = [0i32; SLOT_LIMIT];
+    let mut ys = [0i32; SLOT_LIMIT];
+    let mut zs = [0i32; SLOT_LIMIT];
     let all = Block {
         x: 0,
         xend: grid.width,
@@ -275,6 +302,9 @@ pub fn shade(
         firstplaces,
         second,
         secondplaces,
-        &mut slots,
+        &mut values,
+        &mut xs,
+        &mut ys,
+        &mut zs,
     );
 }

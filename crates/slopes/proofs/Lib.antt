@@ -2,4 +2,5 @@
 pub mod OneAxis
 pub mod Fields
 pub mod Arms
+pub mod SlotLists
 pub mod SlopeRuns

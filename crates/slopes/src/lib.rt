@@ -2,3 +2,4 @@
 pub mod axis;
 pub mod run;
 pub mod sloped;
+pub mod slots;

@@ -5,7 +5,7 @@ ghost use mathlib.Core.Path.{_≡_};
 ghost use lib.IntN.{pos, negℤ};
 ghost use Rattle.rules.specs.Values.{pick, below, sum, difference, product, square, absolute, rootOf, quotient};
 ghost use Rattle.rules.specs.Slopes.{bySign, twice, zeroAt};
-ghost use Rattle.slopes.specs.Shapes.{fourIn, each, eachOfTwo, AllValues};
+ghost use Rattle.slopes.specs.Shapes.{each, eachOfTwo, AllValues};
 
 // A value, and its slopes on x, y and z.
 pub struct Sloped {
@@ -13,24 +13,6 @@ pub struct Sloped {
     pub x: i32,
     pub y: i32,
     pub z: i32,
-}
-
-// The four numbers of a slot, and back.
-pub fn in_slot(row: [i32; 4]) -> Sloped
-    ensures { λ r. ⌜ r ≡ fourIn row ⌝ }
-{
-    Sloped {
-        value: row[0],
-        x: row[1],
-        y: row[2],
-        z: row[3],
-    }
-}
-
-pub fn for_slot(a: Sloped) -> [i32; 4]
-    ensures { λ r. ⌜ fourIn r ≡ a ⌝ }
-{
-    [a.value, a.x, a.y, a.z]
 }
 
 pub fn negate(a: Sloped) -> Sloped

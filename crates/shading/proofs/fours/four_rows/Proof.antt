@@ -4,7 +4,7 @@ use mathlib.Core.Bool.{true}
 use Prim.Native.Nat.{_-_}
 use native.Mathlib.Omega.{arith}
 use lib.ListN.{length}
-use Rattle.rules.specs.Tapes.{slotLimit}
+use Rattle.slopes.specs.Shapes.{slotsOf, Sized}
 use Rattle.walk.specs.Cells.{Ends}
 use Rattle.walk.proofs.CellLaws.{small, ends}
 use Rattle.shading.proofs.ShadeLaws.{rows-in, fits-again, AtRow, rows-begin, rows-next, rows-done}
@@ -13,15 +13,15 @@ use Rattle.shading.proofs.fours.four_rows.Statement.{statement}
 use Rattle.shading.proofs.fours.four_rows.Tie as tie
 
 abbrev Inv-loop : tie.InvT-loop
-Inv-loop whole code places grid block window picture slopes₀ work₀ second₀ secondplaces₀ slots₀ y₀ slopes work second secondplaces slots y =
+Inv-loop whole code places grid block window picture slopes₀ work₀ second₀ secondplaces₀ values₀ xs₀ ys₀ zs₀ y₀ slopes work second secondplaces values xs ys zs y =
     AtRow code grid picture window block slopes₀ slopes y
     × (length work ≡ length work₀)
     × (length second ≡ length second₀)
     × (length secondplaces ≡ length secondplaces₀)
-    × (length slots ≡ slotLimit)
+    × Sized (slotsOf values xs ys zs)
 
 abbrev μ-loop : tie.MeasureT-loop
-μ-loop whole code places grid block window picture slopes₀ work₀ second₀ secondplaces₀ slots₀ y₀ slopes work second secondplaces slots y = block .yend - y
+μ-loop whole code places grid block window picture slopes₀ work₀ second₀ secondplaces₀ values₀ xs₀ ys₀ zs₀ y₀ slopes work second secondplaces values xs ys zs y = block .yend - y
 
 -- The places: the start, the loop, a turn of it, the end of its part, after the call, and past the loop.
 abbrev begun : tie.After-slice-known3 Inv-loop μ-loop → tie.Start Inv-loop μ-loop
@@ -33,8 +33,8 @@ start c = begun (c .before)
 abbrev at-test : tie.Then1 Inv-loop μ-loop → tie.At-loop Inv-loop μ-loop
 at-test c = c .before .before
 
-abbrev ended : tie.After-four-row-arg5 Inv-loop μ-loop → tie.After-lesser Inv-loop μ-loop
-ended c = c .before .before .before .before .before
+abbrev ended : tie.After-four-row-arg8 Inv-loop μ-loop → tie.After-lesser Inv-loop μ-loop
+ended c = c .before .before .before .before .before .before .before .before
 
 abbrev called : tie.After-slice-known6 Inv-loop μ-loop → tie.After-four-row Inv-loop μ-loop
 called c = c .before .before .before .before .before .before .before

@@ -1,7 +1,7 @@
 -- Left alone if it has no height in the window; or narrowed to the window and shaded.
 use native.Mathlib.Omega.{arith}
 use Rattle.shading.proofs.NarrowLaws.{narrow-level, shading-narrowed}
-use Rattle.shading.proofs.WindowLaws.{shading-nothing}
+use Rattle.shading.proofs.WindowLaws.{shading-nothing, shading-tight}
 use borrow.Author.Needs.{needs}
 use Rattle.shading.proofs.fours.visit_four.Statement.{statement}
 use Rattle.shading.proofs.fours.visit_four.Tie as tie
@@ -13,6 +13,9 @@ begun c = c .before .before .before .before .before .before .before
 abbrev looked : tie.Then1 → tie.After-top-in
 looked c = c .before .before
 
+abbrev topped : tie.Else1 → tie.After-top-in
+topped c = c .before .before
+
 abbrev start : tie.Else1 → tie.Start
 start c = begun (c .before .before .before)
 
@@ -22,8 +25,8 @@ in-case c = c .before .before .before .before .before
 abbrev narrowed : tie.After-slice-known6 → tie.After-narrow
 narrowed c = c .before .before .before .before .before .before
 
-abbrev lent : tie.After-shade-rows-arg2 → tie.After-slice-known6
-lent c = c .before .before .before .before
+abbrev lent : tie.After-shade-rows-arg5 → tie.After-slice-known6
+lent c = c .before .before .before .before .before .before .before
 
 top-in-requires : tie.Need-top-in-requires
 top-in-requires c κs = let p = begun c .pre .1 in (p .0 .heights, p .1 .0)
@@ -45,12 +48,25 @@ add-base c =
 narrow-requires : tie.Need-narrow-requires
 narrow-requires c κs =
     let r = c .before .before .before in
-    let p = start (r .before) .pre in
+    let e = r .before in
+    let p = start e .pre in
     let k = p .1 .1 .1 in
     let marks = k .0 in
     let m = r .mark-room .ensures in (
       p .0,
-      (p .1 .0 .heights .fault, (p .1 .1 .0, (k .1 .0, ((omega arith, omega arith), (omega arith, omega arith))))),
+      (
+        p .1 .0 .heights .fault,
+        (
+          p .1 .1 .0,
+          (
+            record {
+              some = omega (arith, e .if1 .left);
+              in-grid = omega (arith, topped e .top-in .ensures .most, k .1 .0 .in-grid);
+            },
+            ((omega arith, omega arith), (omega arith, omega arith)),
+          ),
+        ),
+      ),
     )
 
 mul-short : tie.Need-mul-short
@@ -93,7 +109,11 @@ returns-2 : tie.Need-returns-2
 returns-2 c =
     let v = c .before .shade-rows .ensures in
     let n = narrowed (lent (c .before .before)) in
-    (shading-narrowed (n .narrow .ensures) (v .0), v .1)
+    let e = in-case n in (
+      shading-tight {win = start e .args .window} _ (topped e .top-in .ensures)
+          (shading-narrowed (n .narrow .ensures) (v .0)),
+      v .1,
+    )
 
 pub visit-four-spec : {M : Type 1} → statement M
 visit-four-spec =

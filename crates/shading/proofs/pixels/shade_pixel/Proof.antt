@@ -149,7 +149,7 @@ sample-requires-3 c κs =
 
 run-slopes-requires : tie.Need-run-slopes-requires
 run-slopes-requires c κs =
-    let t = c .before in
+    let t = c .before .before .before .before in
     let p = start t .pre in
     let k = p .1 .1 .0 in (
       sound-runs (p .0),
@@ -161,7 +161,7 @@ run-slopes-requires c κs =
 
 put-requires : tie.Need-put-requires
 put-requires c κs =
-    let p = start (ran c .before .before) .pre .1 in
+    let p = start (ran c .before .before .before .before .before) .pre .1 in
     (three-in _ _ _ (p .1 .0 .0) (p .1 .0 .1) (p .0), pixel-most _ _ _ (p .1 .0 .0) (p .1 .0 .1) (p .0 .heights))
 
 same-length : tie.Need-same-length
@@ -170,7 +170,7 @@ same-length c = search needs
 returns-3 : tie.Need-returns-3
 returns-3 c =
     let r = ran (c .before .before) in
-    let t = r .before .before in
+    let t = r .before .before .before .before .before in
     let a = start t .args in
     let q = start t .pre .0 in
     let p = start t .pre .1 in

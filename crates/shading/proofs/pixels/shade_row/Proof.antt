@@ -1,10 +1,8 @@
 -- One row of pixels.
-use mathlib.Core.Path.{_≡_}
 use mathlib.Core.Bool.{true}
 use Prim.Native.Nat.{_+_, _-_}
 use native.Mathlib.Omega.{arith}
-use lib.ListN.{length}
-use Rattle.rules.specs.Tapes.{slotLimit}
+use Rattle.slopes.specs.Shapes.{slotsOf, Sized}
 use Rattle.walk.proofs.CellLaws.{small}
 use Rattle.shading.specs.Shades.{rowOf}
 use Rattle.shading.proofs.ShadeLaws.{fits-again, row-in, AtColumn, columns-begin, columns-next, columns-done}
@@ -12,11 +10,11 @@ use Rattle.shading.proofs.pixels.shade_row.Statement.{statement}
 use Rattle.shading.proofs.pixels.shade_row.Tie as tie
 
 abbrev Inv-loop : tie.InvT-loop
-Inv-loop code grid picture slopes₀ block y window slots₀ x₀ slopes slots x =
-    AtColumn code grid picture window (rowOf block y) slopes₀ slopes x × (length slots ≡ slotLimit)
+Inv-loop code grid picture slopes₀ block y window values₀ xs₀ ys₀ zs₀ x₀ slopes values xs ys zs x =
+    AtColumn code grid picture window (rowOf block y) slopes₀ slopes x × Sized (slotsOf values xs ys zs)
 
 abbrev μ-loop : tie.MeasureT-loop
-μ-loop code grid picture slopes₀ block y window slots₀ x₀ slopes slots x = block .xend - x
+μ-loop code grid picture slopes₀ block y window values₀ xs₀ ys₀ zs₀ x₀ slopes values xs ys zs x = block .xend - x
 
 -- The places: the start, the loop, a turn of it, after the call, and past the loop.
 abbrev begun : tie.After-shared-slice-known2 Inv-loop μ-loop → tie.Start Inv-loop μ-loop
@@ -29,7 +27,7 @@ abbrev at-test : tie.Then1 Inv-loop μ-loop → tie.At-loop Inv-loop μ-loop
 at-test c = c .before .before
 
 abbrev in-turn : tie.After-slopes Inv-loop μ-loop → tie.Then1 Inv-loop μ-loop
-in-turn c = c .before .before .before .before
+in-turn c = c .before .before .before .before .before .before .before
 
 abbrev past : tie.Else1 Inv-loop μ-loop → tie.At-loop Inv-loop μ-loop
 past c = c .before .before
@@ -41,7 +39,7 @@ loop-holds c =
 
 shade-pixel-requires : tie.Need-shade-pixel-requires Inv-loop μ-loop
 shade-pixel-requires c κs =
-    let t = c .before .before in
+    let t = c .before .before .before .before .before in
     let i = at-test t .loop .inv in
     let s = start (at-test t) in
     let p = s .pre .1 in

@@ -1,21 +1,19 @@
 -- The rows of a block.
-use mathlib.Core.Path.{_≡_}
 use mathlib.Core.Bool.{true}
 use Prim.Native.Nat.{_+_, _-_}
 use native.Mathlib.Omega.{arith}
-use lib.ListN.{length}
-use Rattle.rules.specs.Tapes.{slotLimit}
+use Rattle.slopes.specs.Shapes.{slotsOf, Sized}
 use Rattle.walk.proofs.CellLaws.{small}
 use Rattle.shading.proofs.ShadeLaws.{fits-again, AtRow, rows-begin, rows-next, rows-done}
 use Rattle.shading.proofs.pixels.shade_rows.Statement.{statement}
 use Rattle.shading.proofs.pixels.shade_rows.Tie as tie
 
 abbrev Inv-loop : tie.InvT-loop
-Inv-loop code grid picture slopes₀ block window slots₀ y₀ slopes slots y =
-    AtRow code grid picture window block slopes₀ slopes y × (length slots ≡ slotLimit)
+Inv-loop code grid picture slopes₀ block window values₀ xs₀ ys₀ zs₀ y₀ slopes values xs ys zs y =
+    AtRow code grid picture window block slopes₀ slopes y × Sized (slotsOf values xs ys zs)
 
 abbrev μ-loop : tie.MeasureT-loop
-μ-loop code grid picture slopes₀ block window slots₀ y₀ slopes slots y = block .yend - y
+μ-loop code grid picture slopes₀ block window values₀ xs₀ ys₀ zs₀ y₀ slopes values xs ys zs y = block .yend - y
 
 -- The places: the start, the loop, a turn of it, after the call, and past the loop.
 abbrev begun : tie.After-shared-slice-known2 Inv-loop μ-loop → tie.Start Inv-loop μ-loop
@@ -28,7 +26,7 @@ abbrev at-test : tie.Then1 Inv-loop μ-loop → tie.At-loop Inv-loop μ-loop
 at-test c = c .before .before
 
 abbrev in-turn : tie.After-slopes Inv-loop μ-loop → tie.Then1 Inv-loop μ-loop
-in-turn c = c .before .before .before .before
+in-turn c = c .before .before .before .before .before .before .before
 
 abbrev past : tie.Else1 Inv-loop μ-loop → tie.At-loop Inv-loop μ-loop
 past c = c .before .before
@@ -38,7 +36,7 @@ loop-holds c = let p = begun c .pre .1 .1 in (rows-begin (p .0) _, p .1)
 
 shade-row-requires : tie.Need-shade-row-requires Inv-loop μ-loop
 shade-row-requires c κs =
-    let t = c .before .before in
+    let t = c .before .before .before .before .before in
     let i = at-test t .loop .inv in
     let s = start (at-test t) in
     (s .pre .0, (fits-again (s .pre .1 .0) (i .0 .size), (s .pre .1 .1 .0, ((i .0 .from, t .if1 .taken), i .1))))

@@ -23,8 +23,8 @@ start c = begun (c .before)
 abbrev placed : tie.After-clear → tie.After-whole-places
 placed c = c .before .before .before .before
 
-abbrev lent : tie.After-slots → tie.After-clear
-lent c = c .before .before .before .before .before .before .before .before .before
+abbrev lent : tie.After-zs → tie.After-clear
+lent c = c .before .before .before .before .before .before .before .before .before .before .before .before
 
 abbrev called : tie.After-slice-known12 → tie.After-sixteen-rows
 called c = c .before .before .before .before .before .before .before .before .before .before .before
@@ -51,7 +51,10 @@ sixteen-rows-requires c κs =
       record { sound = p .0; kept = places-kept _ _ (sound-length (p .0)) (w .whole-places .ensures) },
       (
         fits-again (p .1 .0) (k .clear .kept .0),
-        (record { x-some = i .x-in; x-in = omega arith; y-some = i .y-in; y-in = omega arith }, (p .1 .1 .1, refl)),
+        (
+          record { x-some = i .x-in; x-in = omega arith; y-some = i .y-in; y-in = omega arith },
+          (p .1 .1 .1, record { values = refl; xs = refl; ys = refl; zs = refl }),
+        ),
       ),
     )
 

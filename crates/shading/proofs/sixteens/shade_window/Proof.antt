@@ -17,8 +17,8 @@ start c = begun (c .before .before .before .before)
 abbrev narrowed : tie.After-slice-known8 → tie.After-narrow
 narrowed c = c .before .before .before .before .before .before
 
-abbrev lent : tie.After-four-rows-arg5 → tie.After-slice-known8
-lent c = c .before .before .before .before .before .before .before .before .before
+abbrev lent : tie.After-four-rows-arg8 → tie.After-slice-known8
+lent c = c .before .before .before .before .before .before .before .before .before .before .before .before
 
 abbrev called : tie.After-slice-known11 → tie.After-four-rows
 called c = c .before .before .before .before .before .before .before

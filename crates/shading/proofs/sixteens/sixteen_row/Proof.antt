@@ -4,7 +4,7 @@ use mathlib.Core.Bool.{true}
 use Prim.Native.Nat.{_-_}
 use native.Mathlib.Omega.{arith}
 use lib.ListN.{length}
-use Rattle.rules.specs.Tapes.{slotLimit}
+use Rattle.slopes.specs.Shapes.{slotsOf, Sized}
 use Rattle.walk.specs.Cells.{Ends}
 use Rattle.walk.proofs.CellLaws.{small, ends}
 use Rattle.shading.specs.Shades.{allOf}
@@ -14,17 +14,17 @@ use Rattle.shading.proofs.sixteens.sixteen_row.Statement.{statement}
 use Rattle.shading.proofs.sixteens.sixteen_row.Tie as tie
 
 abbrev Inv-loop : tie.InvT-loop
-Inv-loop whole places grid row picture slopes₀ work₀ first₀ firstplaces₀ second₀ secondplaces₀ slots₀ x₀ slopes work first firstplaces second secondplaces slots x =
+Inv-loop whole places grid row picture slopes₀ work₀ first₀ firstplaces₀ second₀ secondplaces₀ values₀ xs₀ ys₀ zs₀ x₀ slopes work first firstplaces second secondplaces values xs ys zs x =
     AtColumn whole grid picture (allOf grid) row slopes₀ slopes x
     × (length work ≡ length work₀)
     × (length first ≡ length first₀)
     × (length firstplaces ≡ length firstplaces₀)
     × (length second ≡ length second₀)
     × (length secondplaces ≡ length secondplaces₀)
-    × (length slots ≡ slotLimit)
+    × Sized (slotsOf values xs ys zs)
 
 abbrev μ-loop : tie.MeasureT-loop
-μ-loop whole places grid row picture slopes₀ work₀ first₀ firstplaces₀ second₀ secondplaces₀ slots₀ x₀ slopes work first firstplaces second secondplaces slots x = row .xend - x
+μ-loop whole places grid row picture slopes₀ work₀ first₀ firstplaces₀ second₀ secondplaces₀ values₀ xs₀ ys₀ zs₀ x₀ slopes work first firstplaces second secondplaces values xs ys zs x = row .xend - x
 
 -- The places: the start, the loop, a turn of it, the end of its part, after the call, and past the loop.
 abbrev begun : tie.After-slice-known5 Inv-loop μ-loop → tie.Start Inv-loop μ-loop
@@ -36,8 +36,8 @@ start c = begun (c .before)
 abbrev at-test : tie.Then1 Inv-loop μ-loop → tie.At-loop Inv-loop μ-loop
 at-test c = c .before .before
 
-abbrev ended : tie.After-visit-sixteen-arg7 Inv-loop μ-loop → tie.After-lesser Inv-loop μ-loop
-ended c = c .before .before .before .before .before .before .before
+abbrev ended : tie.After-visit-sixteen-arg10 Inv-loop μ-loop → tie.After-lesser Inv-loop μ-loop
+ended c = c .before .before .before .before .before .before .before .before .before .before
 
 abbrev called : tie.After-slice-known10 Inv-loop μ-loop → tie.After-visit-sixteen Inv-loop μ-loop
 called c = c .before .before .before .before .before .before .before .before .before .before .before

@@ -3,7 +3,7 @@ use mathlib.Core.Path.{_≡_, refl, _∙_}
 use Prim.Native.Nat.{_-_, _<_}
 use native.Mathlib.Omega.{arith}
 use lib.ListN.{length}
-use Rattle.rules.specs.Tapes.{slotLimit}
+use Rattle.slopes.specs.Shapes.{slotsOf, Sized}
 use Rattle.shading.proofs.ShadeLaws.{fits-again}
 use Rattle.shading.proofs.WindowLaws.{AtTop, window-below, window-most, top-begins, top-next, top-done}
 use borrow.Author.Needs.{needs}
@@ -11,17 +11,17 @@ use Rattle.shading.proofs.sixteens.visit_sixteen.Statement.{statement}
 use Rattle.shading.proofs.sixteens.visit_sixteen.Tie as tie
 
 abbrev Inv-loop : tie.InvT-loop
-Inv-loop whole places grid block picture slopes₀ work₀ first₀ firstplaces₀ second₀ secondplaces₀ slots₀ top₀ slopes work first firstplaces second secondplaces slots top =
+Inv-loop whole places grid block picture slopes₀ work₀ first₀ firstplaces₀ second₀ secondplaces₀ values₀ xs₀ ys₀ zs₀ top₀ slopes work first firstplaces second secondplaces values xs ys zs top =
     AtTop whole grid picture block slopes₀ slopes top
     × (length work ≡ length work₀)
     × (length first ≡ length first₀)
     × (length firstplaces ≡ length firstplaces₀)
     × (length second ≡ length second₀)
     × (length secondplaces ≡ length secondplaces₀)
-    × (length slots ≡ slotLimit)
+    × Sized (slotsOf values xs ys zs)
 
 abbrev μ-loop : tie.MeasureT-loop
-μ-loop whole places grid block picture slopes₀ work₀ first₀ firstplaces₀ second₀ secondplaces₀ slots₀ top₀ slopes work first firstplaces second secondplaces slots top = top
+μ-loop whole places grid block picture slopes₀ work₀ first₀ firstplaces₀ second₀ secondplaces₀ values₀ xs₀ ys₀ zs₀ top₀ slopes work first firstplaces second secondplaces values xs ys zs top = top
 
 -- The places: the start, before and after the first greatest height; a turn of the loop, once its window is known, and
 -- after the call; and past the loop.
@@ -34,8 +34,8 @@ start c = begun (c .before .before)
 abbrev in-turn : tie.After-lesser Inv-loop μ-loop → tie.At-loop Inv-loop μ-loop
 in-turn c = c .before .before
 
-abbrev lent : tie.After-shade-window-arg7 Inv-loop μ-loop → tie.After-lesser Inv-loop μ-loop
-lent c = c .before .before .before .before .before .before .before
+abbrev lent : tie.After-shade-window-arg10 Inv-loop μ-loop → tie.After-lesser Inv-loop μ-loop
+lent c = c .before .before .before .before .before .before .before .before .before .before
 
 abbrev called : tie.After-slice-known10 Inv-loop μ-loop → tie.After-shade-window Inv-loop μ-loop
 called c = c .before .before .before .before .before .before .before .before .before .before .before
