@@ -14,11 +14,11 @@ use Rattle.rules.proofs.Visit.{visit-sample}
 use Rattle.rules.specs.Accepted.{Accepted}
 use Rattle.code.specs.Words.{tapeIn}
 use Rattle.code.proofs.WordTapes.{length-clauses}
-use Rattle.picture.specs.Bits.{rowByteFrom, rowByte, markRow, StoredRow, Shows}
+use Rattle.picture.specs.Bits.{rowByteFrom, rowByte, markRow, SpareZero, StoredRow, Shows}
 use Rattle.picture.specs.Parts.{Blank}
 use Rattle.picture.specs.Shapes.{gridIn}
 use Rattle.picture.specs.declared.grid.Grid.{Grid}
-use Rattle.picture.proofs.BitShows.{stored-shows}
+use Rattle.picture.proofs.BitShows.{row-spare, stored-shows}
 use Rattle.walk.specs.Cells.{CellOk}
 use Rattle.walk.specs.Walks.{Folds}
 use Rattle.walk.specs.declared.cell.Cell.{Cell}
@@ -111,6 +111,14 @@ module _ (t : Tape) (grid : Grid) (y : ℕ) (l : y < grid .height) where
       ∙ row-sampled m (suc x) px (omega arith) k (D.state h (s .clauses + n))
       ∙ ap (λ q. D.state (markRow q (materials m t (flatIn grid) (suc x) y) h) (s .clauses + n + m * n)) v
       ∙ ap (λ c. D.state (markRow (suc p) (materials m t (flatIn grid) (suc x) y) h) c) w
+
+-- The byte of a cell's samples in a row has its spare bits 0: the last of them is the row's last, or before it.
+pub samples-spare : {grid : Grid} {c : Cell} → CellOk 1 grid c → (t : Tape) (y byte : ℕ)
+    → byte ≡ rowByte (materials (c .xend - c .x) t (flatIn grid) (c .x) y) → SpareZero (grid .width) (c .x) byte
+samples-spare {grid} {c} k t y byte e =
+    let m = c .xend - c .x in
+    row-spare (grid .width) (c .x) byte (materials m t (flatIn grid) (c .x) y)
+    (omega (arith, materials-length t (flatIn grid) y m (c .x), k .xs)) e
 
 -- A row of a region of side 8, by its byte and what storing the byte does.
 module _ {grid : Grid} {c : Cell} (k : CellOk 1 grid c) (eight : c .side ≡ 8) where

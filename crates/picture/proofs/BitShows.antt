@@ -15,7 +15,8 @@ use borrow.Author.Tests.{ltb-true, ltb-false, eqb-true, eqb-false}
 use Rattle.rules.specs.Values.{pick, when}
 use Rattle.rules.specs.Drawings.{raiseRow, raiseRows}
 use Rattle.rules.specs.Pictures.{stride, byteOf, rowBytes, bitsOf}
-use Rattle.picture.specs.Bits.{bit, pixel, rowByte, markRow, markAt, Within, Marked, StoredRow, Shows}
+use Rattle.picture.specs.Bits.{bit, pixel, rowByte, markRow, markAt, Within, Marked, SpareZero}
+use Rattle.picture.specs.Bits.{StoredRow, Shows}
 use Rattle.picture.proofs.BitBytes.{bit-zero, row-byte-bits}
 use Rattle.picture.proofs.BitMarks.{marked-byte, mark-none, mark-off, mark-apart, mark-in, mark-past}
 use Rattle.picture.proofs.BitMarks.{mark-append, mark-place}
@@ -123,14 +124,24 @@ pub row-in : (w x xend yend y : ℕ) (b : List ℕ) → Within w x xend yend b �
 row-in w x xend yend y b i l =
     omega (arith, i .start, i .columns, i .rows, i .some, mul-le-mul-right (stride w) l)
 
+-- The byte of a row's samples, none of them past the row's end, has its spare bits 0.
+pub row-spare : (w x v : ℕ) (bs : List Bool) → x + length bs ≤ w → v ≡ rowByte bs → SpareZero w x v
+row-spare w x v bs l e =
+    record {
+      bits = λ k o m.
+          ap (bit (7 - k)) e ∙ row-byte-bits k bs o
+          ∙ ap (λ t. when t 1) (List·getD-eq-default bs false (omega arith));
+    }
+
 -- One byte stored.
-pub stored : (w x y v : ℕ) (b : List ℕ) → y * stride w + x / 8 < length b
+pub stored : (w x y v : ℕ) (b : List ℕ) → y * stride w + x / 8 < length b → SpareZero w x v
     → StoredRow w x y v b (set b (y * stride w + x / 8) v)
-stored w x y v b l =
+stored w x y v b l z =
     let at = y * stride w + x / 8 in
     record {
       size = length-set b at v;
       here = λ bs e k o. rw getD-set-same (ap (bit (7 - k)) e ∙ row-byte-bits k bs o);
+      spare = λ k o m. rw getD-set-same (z .bits k o m);
       other = λ j n. getD-set-other b at j v 0 n;
     }
 

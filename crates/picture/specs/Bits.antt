@@ -57,10 +57,16 @@ pub record Marked (p : ℕ) (bs : List Bool) (b b′ : List ℕ) : Type 0 where
   pub bits : (j k : ℕ) → j < length b → k < 8
       → bit (7 - k) (getD b′ j 0) ≡ max (bit (7 - k) (getD b j 0)) (markAt p bs (8 * j + k))
 
--- The byte of a row of samples, stored from pixel x of row y on: each sample's bit is its material, the bits past the
--- last sample, spare bits included, are 0 whatever the byte held, and every other byte is as it was.
+-- Of the byte v for the pixels from x on of a row of w pixels, the spare bits are 0: those at or past the row's end.
+pub record SpareZero (w x v : ℕ) : Type 0 where
+  pub bits : (k : ℕ) → k < 8 → w ≤ x + k → bit (7 - k) v ≡ 0
+
+-- The byte v, stored from pixel x of row y on, whatever that byte held: where v is the byte of a row of samples, each
+-- sample's bit is its material and the bits past the last sample are 0; the spare bits, those past the row's w pixels,
+-- are 0; and every other byte is as it was.
 pub record StoredRow (w x y v : ℕ) (b b′ : List ℕ) : Type 0 where
   pub size : length b′ ≡ length b
   pub here : (bs : List Bool) → v ≡ rowByte bs → (k : ℕ) → k < 8
       → bit (7 - k) (getD b′ (y * stride w + x / 8) 0) ≡ when (getD bs k false) 1
+  pub spare : (k : ℕ) → k < 8 → w ≤ x + k → bit (7 - k) (getD b′ (y * stride w + x / 8) 0) ≡ 0
   pub other : (j : ℕ) → (j ≡ y * stride w + x / 8 → ⊥) → getD b′ j 0 ≡ getD b j 0

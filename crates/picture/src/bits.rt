@@ -9,7 +9,7 @@ ghost use lib.ListN.{length, getD, set, replicate};
 ghost use Rattle.rules.specs.Values.{when};
 ghost use Rattle.rules.specs.Drawings.{sizeLimit, raiseRows};
 ghost use Rattle.rules.specs.Pictures.{stride as strideOf};
-ghost use Rattle.picture.specs.Bits.{bit, rowByte, Within, Marked, StoredRow, Shows};
+ghost use Rattle.picture.specs.Bits.{bit, rowByte, Within, Marked, SpareZero, StoredRow, Shows};
 ghost use Rattle.picture.specs.Parts.{KeptOutside, Apart};
 
 pub fn clear(picture: &mut [u8])
@@ -97,9 +97,9 @@ fn store(picture: &mut [u8], at: usize, byte: u8)
     picture[at] = byte;
 }
 
-// Stores the byte of a row of samples, from pixel `x` of row `y` on, with its final bits.
+// Stores the byte of a row of samples, from pixel `x` of row `y` on, with its final bits: no spare bit is set.
 pub fn store_row(picture: &mut [u8], width: usize, x: usize, y: usize, byte: u8)
-    requires { ⌜ Within width x (x + 1) (y + 1) (now picture) ⌝ }
+    requires { ⌜ Within width x (x + 1) (y + 1) (now picture) ⌝ ∗ ⌜ SpareZero width x byte ⌝ }
     ensures { λ _. ⌜ StoredRow width x y byte (now (picture .entry)) (now (picture .exit)) ⌝ }
 {
     store(picture, y * stride(width) + x / 8, byte);

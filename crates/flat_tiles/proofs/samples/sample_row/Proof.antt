@@ -9,7 +9,7 @@ use Rattle.picture.proofs.PartLaws.{stored-apart}
 use Rattle.walk.specs.Walks.{Folds}
 use Rattle.walk.proofs.LookLaws.{sound-length}
 use Rattle.flat_tiles.proofs.CellRows.{pixels-in}
-use Rattle.flat_tiles.proofs.SampleRows.{row-folds, row-stored}
+use Rattle.flat_tiles.proofs.SampleRows.{samples-spare, row-folds, row-stored}
 use borrow.Author.Needs.{needs}
 use Rattle.flat_tiles.proofs.samples.sample_row.Statement.{statement}
 use Rattle.flat_tiles.proofs.samples.sample_row.Tie as tie
@@ -38,9 +38,13 @@ cast-store-row-2 c = search needs
 
 store-row-requires : tie.Need-store-row-requires
 store-row-requires c κs =
-    let p = start (c .before .before .before) .pre .1 in
-    let k = p .1 .0 in
-    pixels-in _ _ _ (p .0) (p .1 .1 .0 .1) (omega arith) (omega (arith, k .xs)) (omega (arith, k .ys, p .1 .1 .0 .2))
+    let b = c .before .before .before in
+    let s = start b .pre .0 in
+    let p = start b .pre .1 in
+    let k = p .1 .0 in (
+      pixels-in _ _ _ (p .0) (p .1 .1 .0 .1) (omega arith) (omega (arith, k .xs)) (omega (arith, k .ys, p .1 .1 .0 .2)),
+      samples-spare k _ _ _ (b .row-byte .ensures .0 (s .slots) (s .accepted)),
+    )
 
 sub-result : tie.Need-sub-result
 sub-result c = omega (arith, start (with-byte (stored c)) .pre .1 .1 .0 .xs)

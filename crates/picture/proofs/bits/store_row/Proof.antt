@@ -18,7 +18,7 @@ placed c =
     let a = c .before .before .before .args in
     let p = c .before .before .before .pre in
     rw (c .stride .ensures)
-    (omega (arith, row-in (a .width) (a .x) (a .x + 1) (a .y + 1) (a .y) (now (a .picture)) p (omega arith)))
+    (omega (arith, row-in (a .width) (a .x) (a .x + 1) (a .y + 1) (a .y) (now (a .picture)) (p .0) (omega arith)))
 
 mul-store : tie.Need-mul-store
 mul-store c = omega (arith, placed c)
@@ -37,7 +37,8 @@ returns c =
     let d = c .before .before .before in
     let a = d .before .before .before .args in
     rw (c .before .before .store .ensures, d .stride .ensures)
-    (stored (a .width) (a .x) (a .y) (a .byte) (now (a .picture)) (rw (d .stride .ensures) at (placed d)))
+    (stored (a .width) (a .x) (a .y) (a .byte) (now (a .picture)) (rw (d .stride .ensures) at (placed d))
+    (d .before .before .before .pre .1))
 
 pub store-row-spec : {M : Type 1} → statement M
 store-row-spec =
