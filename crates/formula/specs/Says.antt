@@ -18,8 +18,9 @@ abbrev pub roomFault : List ℕ → ℕ
 roomFault o = when (not (eqb (length o) tapeRoom)) 14
 
 -- "17 when the text breaks these rules", "18 when a bracket, a function's too, opens inside 32 others. Of 17 and 18,
--- the one met first from the left", which is what the reader answers. "19 when more than 1,024 clauses or 64 slots are
--- needed, tested last."
+-- the one met first from the left; at one byte, 17", which is what the reader answers: by the grammar and not by the
+-- reader this is said in `reads-exactly`, `breaks-exactly` and `deep-exactly` of formula_rules, and of the call in
+-- `text-numbers` of layers. "19 when more than 1,024 clauses or 64 slots are needed, tested last."
 abbrev pub answerFault : Answer → ℕ
 answerFault (done t) = when (not (fitsText (tapeOf t))) 19
 answerFault (breaks n) = 17

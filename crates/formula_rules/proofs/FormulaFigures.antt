@@ -1,4 +1,4 @@
--- Request T-02's figures about the tape of a tree, as rows of one list: what a definition gives, and what is said.
+-- Figures about the tape of a tree, for request T-02, as rows of one list: what a definition gives, and what is said.
 use mathlib.Core.Path.{_≡_, refl}
 use mathlib.Core.Bool.{Bool}
 use mathlib.Core.List.{List, [], _∷_, _++_, map}

@@ -1,5 +1,5 @@
--- What a formula means (Trees), its grammar (Formulas), the reader of its text (FormulaReader, FormulaCalls,
--- FormulaDepths) and its tape (FormulaTapes).
+-- What a formula means (Trees), its grammar (Formulas), the reader of its text (FormulaReader, FormulaCalls)
+-- and its tape (FormulaTapes; as the reader writes it, FormulaDepths).
 pub mod Trees
 pub mod Formulas
 pub mod FormulaReader

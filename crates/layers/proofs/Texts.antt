@@ -1,9 +1,9 @@
 -- Texts of formulas, of what the call returns: a text that is done is an allowed one, and its tape has the value that the
 -- formula means, at every sample; and each number comes back exactly where document 02 says so.
-use mathlib.Core.Path.{_≡_, refl, sym, ap, _∙_}
+use mathlib.Core.Path.{_≡_, refl, sym, ap, subst, _∙_}
 use mathlib.Core.Bool.{Bool, true, false, not}
 use mathlib.Core.List.{List, [], _∷_}
-use mathlib.Core.Logic.{_↔_}
+use mathlib.Core.Logic.{_↔_, _⊎_, inl, inr}
 use Prim.Native.Nat.{ℕ, zero, suc, _≤_, _<_}
 use native.Mathlib.Omega.{arith}
 use lib.Dec.{eqb}
@@ -107,9 +107,14 @@ text-read text o o′ r f e = go (reader text) refl
     go (breaks m) h = absurd (omega (arith, sym (ap answerFault h) ∙ line))
     go (deep m) h = absurd (omega (arith, sym (ap answerFault h) ∙ line))
 
--- Which number comes back from a buffer of the right length, each exactly where document 02 says so: 17 met at some
--- byte or at the end, 18 at some bracket, 19 of an allowed text; and no allowed text within the limits is refused.
+-- Which number comes back from a buffer of the right length: one of four, each exactly where document 02 says so: 17
+-- met at some byte or at the end, 18 at some bracket, 19 of an allowed text; and no allowed text within the limits is
+-- refused.
+abbrev pub OfText : ℕ → Type 0
+OfText n = (n ≡ 0) ⊎ ((n ≡ 17) ⊎ ((n ≡ 18) ⊎ (n ≡ 19)))
+
 pub record TextNumbers (text : List ℕ) (n : ℕ) : Type 0 where
+  pub one : OfText n
   pub broken : (n ≡ 17) ↔ ((m : ℕ) × BreaksAt text m)
   pub deeper : (n ≡ 18) ↔ ((m : ℕ) × DeepAt text m)
   pub large : (n ≡ 19) ↔ ((t : Tree) × ReadsAs text t × (fitsText (tapeOf t) ≡ false))
@@ -122,6 +127,15 @@ large-when false e = refl
 no-other : (b : Bool) (n : ℕ) → when (not b) 19 ≡ n → (n ≡ 0 → ⊥) → (n ≡ 19 → ⊥) → ⊥
 no-other true n e h k = h (sym e)
 no-other false n e h k = k (sym e)
+
+of-when : (b : Bool) → OfText (when (not b) 19)
+of-when true = inl refl
+of-when false = inr (inr (inr refl))
+
+of-answer : (a : R.Answer) → OfText (answerFault a)
+of-answer (done t) = of-when (fitsText (tapeOf t))
+of-answer (breaks m) = inr (inl refl)
+of-answer (deep m) = inr (inr (inl refl))
 
 module _ (text : List ℕ) where
   met-broken : (a : R.Answer) → reader text ≡ a → answerFault a ≡ 17 → (m : ℕ) × BreaksAt text m
@@ -153,6 +167,7 @@ module _ (text : List ℕ) where
   pub numbers : (n : ℕ) → n ≡ answerFault (reader text) → TextNumbers text n
   numbers n e =
       record {
+        one = subst OfText (sym e) (of-answer (reader text));
         broken = (
           λ z. met-broken (reader text) refl (sym e ∙ z),
           λ (m, b). e ∙ ap answerFault (breaks-exactly text m .1 b),
@@ -162,15 +177,25 @@ module _ (text : List ℕ) where
         read = (λ z. met-none (reader text) refl (sym e ∙ z), λ (t, r, f). e ∙ of-tree t true r f);
       }
 
--- A buffer of the right length leaves the text's own number; another one gives 14.
+-- A buffer of the right length leaves the text's own number.
 pub room-kept : (text o : List ℕ) → length o ≡ tapeRoom → textFault text o ≡ answerFault (reader text)
 room-kept text o h = rw (eq-eqb (length o) tapeRoom h) (first-none (answerFault (reader text)))
-
-pub text-room : (text o o′ : List ℕ) (r : Answer) → TextAnswered text o o′ r → (length o ≡ tapeRoom → ⊥)
-    → r .number ≡ 14
-text-room text o o′ r f h = f .answer .number ∙ rw (ne-eqb (length o) tapeRoom h)
 
 pub text-numbers : (text o o′ : List ℕ) (r : Answer) → TextAnswered text o o′ r → length o ≡ tapeRoom
     → TextNumbers text (r .number)
 text-numbers text o o′ r f h =
     numbers text (r .number) (f .answer .number ∙ room-kept text o h)
+
+-- 14 is not of the text: it comes back exactly from a buffer of another length.
+not-room : (n : ℕ) → OfText n → n ≡ 14 → ⊥
+not-room n (inl e) z = omega arith
+not-room n (inr (inl e)) z = omega arith
+not-room n (inr (inr (inl e))) z = omega arith
+not-room n (inr (inr (inr e))) z = omega arith
+
+pub text-room : (text o o′ : List ℕ) (r : Answer) → TextAnswered text o o′ r
+    → (r .number ≡ 14) ↔ (length o ≡ tapeRoom → ⊥)
+text-room text o o′ r f = (
+  λ z h. not-room (r .number) (text-numbers text o o′ r f h .one) z,
+  λ h. f .answer .number ∙ rw (ne-eqb (length o) tapeRoom h),
+)
