@@ -21,7 +21,7 @@ use Rattle.code.specs.Unpacking.{Unpacked}
 use Rattle.picture.specs.Shapes.{gridIn}
 use Rattle.picture.specs.declared.grid.Grid.{Grid}
 use Rattle.picture.proofs.Grids.{accepted}
-use Rattle.shading.specs.Shades.{Shaded}
+use Rattle.shading.specs.Narrow.{Shaded}
 use Rattle.layers.specs.declared.Answer.{Answer}
 use Rattle.layers.specs.Says.{lengthFault, slopeFault, workFault, slopeLines, slopesFault, SlopesSay}
 use Rattle.layers.specs.Sizes.{Draws, TilesOf, SlopesOf}

@@ -3,11 +3,11 @@
 use mathlib.Core.Path.{_≡_, refl}
 use mathlib.Core.Bool.{Bool, true, false}
 use mathlib.Core.Logic.{inl, inr}
-use mathlib.Core.List.{List, [], _∷_, map}
+use mathlib.Core.List.{List, [], _∷_, _++_, map}
 use lib.IntN.{pos}
 use Prim.Native.Nat.{ℕ, _*_}
 use native.Mathlib.Omega.{arith}
-use lib.ListN.{length, take, replicate}
+use lib.ListN.{length, getD, take, replicate}
 use Rattle.rules.specs.Values.{isNeg, smaller, larger, sum, difference, product, square, rootFrom, rootOf}
 use Rattle.rules.specs.Values.{unaryValue, binaryValue, valueOf, sumR, differenceR, productR, negR, holdsZero}
 use Rattle.rules.specs.Values.{absoluteR, squareR, rootR, smallerR, largerR, unaryRange, multipliedR, binaryRange}
@@ -22,10 +22,15 @@ use Rattle.rules.specs.Drawings.{Grid, solid, sampleAt, gridFault, colum
 use Rattle.rules.specs.Drawings.{region, lesser, boxOf, state, raiseRow, raiseRows, filled, rowHigh, rowsHigh}
 use Rattle.rules.specs.Drawings.{hidden, alongX, alongY, alongZ, children, fold, shortTape, onSample, visit}
 use Rattle.rules.specs.Drawings.{sides, whole, walked, flatBound, partOf, shortAfter, OneOf, Nested, InWalk}
-use Rattle.rules.specs.Drawings.{lastIn, Tiles}
+use Rattle.rules.specs.Drawings.{lastIn, Tiles, RaisesTo}
+use Rattle.rules.specs.Slopes.{listed, threeAt, slopesAt, slopesOf, slopedAt, slopedFrom, slopeOf, unarySlope}
+use Rattle.rules.specs.Slopes.{slopedOf, binarySlope}
 use Rattle.rules.specs.Pictures.{byteOf, rowBytes, bitsOf, picture, digitsFrom, head, cleanRow, cleanRows}
 use Rattle.rules.specs.Pictures.{bitmapFile}
 use Rattle.rules.proofs.Bytes.{both-ways}
+use Rattle.rules.proofs.Runs.{accepted-good}
+use Rattle.rules.proofs.Columns.{drawn-most}
+use Rattle.rules.proofs.SlopePixels.{visible-slopes}
 use Rattle.rules.proofs.Tiles.{demand-3}
 
 -- The records of a tape of whole constants: k stands for k · 65,536.
@@ -119,6 +124,10 @@ sixteen = region 0 0 0 16
 abbrev pub sixteenTape : Tape
 sixteenTape = shortTape (tileTape tenSolid) tenSolid sixteen
 
+-- The regions around those of side 4 in the solid.
+abbrev pub solidTo : List Region
+solidTo = tile ∷ (sixteen ∷ [])
+
 -- The second 8-region of the first tile, which the flat walk cuts, and the tape that its samples are run with.
 abbrev pub downTo : List Region
 downTo = tile ∷ (region 8 0 0 8 ∷ [])
@@ -164,6 +173,12 @@ pub record Computed : Type 0 where
       ∷ (region 4 0 8 4 ∷ (region 0 0 4 4 ∷ (region 4 0 4 4 ∷ (region 0 0 0 4 ∷ (region 4 0 0 4 ∷ [])))))
   pub solid-signs : map (signs sixteenTape tenSolid) (take 4 (children tenSolid sixteen 4))
       ≡ skips ∷ (skips ∷ (fills ∷ (cuts ∷ [])))
+  -- The third one sets the height of the pixel (1, 1), with the tape of the region of side 16.
+  pub solid-down : InWalk tenSolid (solidTo ++ (region 0 0 4 4 ∷ []))
+  pub solid-raises : RaisesTo tenSolid (region 0 0 4 4) 1 1 7
+  pub solid-height : getD (drawn ten tenSolid) 7 0 ≡ 8
+  pub solid-slopes : listed (slopesAt (shortAfter ten (map (boxOf tenSolid) solidTo)) (sampleAt tenSolid 1 1 7))
+      ≡ pos 0 ∷ (pos 0 ∷ (pos 65536 ∷ []))
   pub solid-ones : length (children tenSolid (region 4 0 4 4) 1) ≡ 16
   pub solid-seen : hidden tenSolid (region 0 0 4 4) (replicate 12 0) ≡ false
   pub solid-hidden : hidden tenSolid (region 0 0 0 4) (filled tenSolid (region 0 0 4 4) (replicate 12 0)) ≡ true
@@ -186,7 +201,7 @@ unfolding Nested OneOf shortAfter allBytes allIn32 listOf rawsOf readList readTa
     rangeOver rangeFrom material valueAt runFrom choiceOf sideAbove sideBelow rangeOf binaryRange multipliedR unaryRange
     largerR smallerR rootR squareR absoluteR holdsZero negR productR differenceR sumR valueOf binaryValue unaryValue
     rootOf rootFrom square product difference sum larger smaller bitmapFile cleanRows cleanRow head digitsFrom picture
-    bitsOf rowBytes byteOf
+    bitsOf rowBytes byteOf slopesAt slopedAt slopedFrom slopedOf slopeOf unarySlope binarySlope
 computed =
     record {
       ten-flat = checked refl refl refl refl refl;
@@ -204,6 +219,16 @@ computed =
       solid-sixteens = refl;
       solid-fours = refl;
       solid-signs = refl;
+      solid-down = (inl refl, (inl refl, (inr (inr (inl refl)), tt)));
+      solid-raises = record {
+        x-from = omega arith;
+        x-to = omega arith;
+        y-from = omega arith;
+        y-to = omega arith;
+        height = refl;
+      };
+      solid-height = refl;
+      solid-slopes = refl;
       solid-ones = refl;
       solid-seen = refl;
       solid-hidden = refl;
@@ -230,6 +255,13 @@ unfolding lastIn
 value-by-theorem =
     ten-tiles .same-value-in-walk tenFlat false (computed .ten-flat .kind) (computed .ten-flat .grid) downTo
     (computed .flat-down) 9 7 0 (omega arith) (omega arith)
+
+pub slopes-by-theorem : threeAt (slopesOf ten tenSolid (drawn ten tenSolid)) 7
+    ≡ listed (slopesAt (shortAfter ten (map (boxOf tenSolid) solidTo)) (sampleAt tenSolid 1 1 7))
+slopes-by-theorem =
+    visible-slopes ten (accepted-good tenBytes (computed .ten-flat .tape)) tenSolid true (computed .ten-solid .kind)
+    (computed .ten-solid .grid) (drawn ten tenSolid) (drawn-most ten tenSolid)
+    .set-by 1 1 7 (computed .solid-height) solidTo (region 0 0 4 4) (computed .solid-down) (computed .solid-raises)
 
 pub ten-by-tape : (tapeBytes ten ≡ tenBytes) × (readList (ten .slots) (listOf (ten .clauses)) ≡ readTape tenBytes)
 ten-by-tape = both-ways .by-tape tenBytes (computed .ten-bytes) (computed .ten-flat .tape)

@@ -323,7 +323,8 @@ balls =
     ∷ (slopes (slopesAt (ball squareIn 327680) nowhere) (pos 0) (pos 0) (pos 0)
     ∷ [])))))
 
--- Quotients; sides that win, and ties; signs; what is passed on; a square's half is rounded before it is doubled.
+-- Quotients; sides that win, and ties; signs; what is passed on; a square's half is rounded before it is doubled; a
+-- product's two sides; the root of a negative value; slopes past both ends.
 abbrev pub steep : List Row
 steep =
     slopes (slopesAt (ofTwo 14 1 3) (sampled (pos 196608) (pos 0) (pos 131072))) (pos 32768) (pos 0) (minus 49152)
@@ -334,11 +335,16 @@ steep =
     ∷ (slopes (slopesAt (ofTwo 13 1 2) (sampled (pos 7) (pos 8) (pos 0))) (pos 0) (pos 65536) (pos 0)
     ∷ (slopes (slopesAt (ofTwo 10 2 3) nowhere) (pos 0) (pos 65536) (minus 65536)
     ∷ (slopes (slopesAt (ofOne 6 1) (sampled (minus 3) (pos 0) (pos 0))) (minus 65536) (pos 0) (pos 0)
+    ∷ (slopes (slopesAt (ofOne 6 1) (sampled (pos 3) (pos 0) (pos 0))) (pos 65536) (pos 0) (pos 0)
     ∷ (slopes (slopesAt (ofOne 6 1) nowhere) (pos 0) (pos 0) (pos 0)
     ∷ (slopes (slopesAt (ofOne 5 3) nowhere) (pos 0) (pos 0) (minus 65536)
     ∷ (slopes (slopesAt (ofOne 4 2) nowhere) (pos 0) (pos 65536) (pos 0)
     ∷ (number (slopeOf 1 7 (pos 98304) (pos 0) (pos 1) (pos 0) (pos 0)) (pos 2)
-    ∷ [])))))))))))
+    ∷ (slopes (slopesAt (ofTwo 11 1 2) (sampled (pos 98304) (pos 65537) (pos 0))) (pos 65537) (pos 98304) (pos 0)
+    ∷ (slopes (slopesAt (ofOne 8 1) (sampled (minus 5) (pos 0) (pos 0))) (pos 0) (pos 0) (pos 0)
+    ∷ (slopes (slopesAt (ofTwo 14 1 3) (sampled (pos 1) (pos 0) (pos 1)))
+    (pos 2147483647) (pos 0) (minus 2147483647)
+    ∷ [])))))))))))))))
 
 -- A ball of radius 2 over 4 by 2 pixels, by its heights; the last of them put to 0.
 abbrev pub overBall : Grid

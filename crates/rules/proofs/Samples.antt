@@ -54,7 +54,7 @@ layer-most : (b : Bool) (d e : ℕ) → 1 ≤ e → pick b (lesser d e) 1 ≤ e
 layer-most true d e h = lesser-most d e .1
 layer-most false d e h = h
 
-pixel-inside : {g : Grid} {r : Region} {p : ℕ} (q : Pixel g r p) → 1 ≤ r .long → (z : ℕ) → r .k ≤ z → z < pastZ g r
+pub pixel-inside : {g : Grid} {r : Region} {p : ℕ} (q : Pixel g r p) → 1 ≤ r .long → (z : ℕ) → r .k ≤ z → z < pastZ g r
     → Inside r (q .x) (q .y) z × InGrid g (q .x) (q .y) z
 pixel-inside {g} {r} {p} q l z h k =
     let u = lesser-most (g .width) (r .i + r .long) in

@@ -1,21 +1,26 @@
 -- The slopes of a picture, pixel by pixel: three numbers for each, found at their place in the list.
 use mathlib.Core.Path.{_≡_, refl, sym, ap, ap₂, _∙_}
 use mathlib.Core.Bool.{Bool, true, false}
-use mathlib.Core.List.{List, [], _∷_, _++_}
+use mathlib.Core.List.{List, [], _∷_, _++_, map}
 use lib.IntN.{ℤ, pos}
 use Prim.Native.Nat.{ℕ, zero, suc, _+_, _*_, _<_, _≤_}
 use native.Mathlib.Nat.{mul-le-mul-right}
 use native.Mathlib.Omega.{arith}
 use lib.Dec.{eqb}
 use lib.ListN.{length, getD, set, take, drop, replicate, take-append-drop, drop-of-length-le, length-set}
-use lib.ListN.{length-replicate}
-use lib.Seq.{drop-cons, drop-drop, getD-set-same, getD-set-other}
+use lib.ListN.{length-replicate, length-append, List·getD-append}
+use lib.Seq.{drop-cons, drop-drop, getD-set-same, getD-set-other, getD-append-add}
 use borrow.Author.Tests.{eqb-true, eqb-false}
 use Rattle.rules.specs.Tapes.{Tape}
-use Rattle.rules.specs.Drawings.{Grid, sampleAt}
+use Rattle.rules.specs.Drawings.{Grid, solid, sampleAt, gridFault, layers, Region, boxOf, whole, shortAfter}
+use Rattle.rules.specs.Drawings.{InWalk, lastIn, Inside, InGrid}
 use Rattle.rules.specs.Slopes.{Slopes, slopesAt, listed, threeAt, pixelSlopes, rowSlopes, rowsSlopes, slopesOf}
+use Rattle.rules.specs.Slopes.{VisibleSlopes}
+use Rattle.rules.proofs.Runs.{Good}
 use Rattle.rules.proofs.Algebra.{of-replicate}
 use Rattle.rules.proofs.Heights.{same-pixel}
+use Rattle.rules.proofs.Nested.{around-in-walk}
+use Rattle.rules.proofs.Slopes.{same-slopes-in-walk}
 
 -- The list b has each pixel's slopes at the height that h has for it.
 pub record ShowSlopes (t : Tape) (g : Grid) (h : List ℕ) (b : List ℤ) : Type 0 where
@@ -189,3 +194,111 @@ shown-put t g h b s l i j k x y =
         ∙ s .pixel i′ j′ x′ y′
         ∙ ap (λ (z : ℕ). pixelSlopes t g i′ j′ z)
         (sym (getD-set-other h p (j′ * g .width + i′) (suc k) 0 (λ e. d (sym e))))
+
+-- The other way round: `slopesOf` has each pixel's slopes. The three numbers of a pixel in a list of two parts.
+three-first : (t : Tape) (g : Grid) (i j k : ℕ) (b : List ℤ)
+    → threeAt (pixelSlopes t g i j k ++ b) 0 ≡ pixelSlopes t g i j k
+three-first t g i j zero b = refl
+three-first t g i j (suc k) b = refl
+
+three-before : (a b : List ℤ) (m p : ℕ) → length a ≡ 3 * m → p < m → threeAt (a ++ b) p ≡ threeAt a p
+three-before a b m p e l =
+    three
+    (List·getD-append a b (pos 0) (3 * p) (omega arith))
+    (List·getD-append a b (pos 0) (3 * p + 1) (omega arith))
+    (List·getD-append a b (pos 0) (3 * p + 2) (omega arith))
+
+three-after : (a b : List ℤ) (m p q : ℕ) → length a ≡ 3 * m → q ≡ m + p → threeAt (a ++ b) q ≡ threeAt b p
+three-after a b m p q e d =
+    three
+    (at (3 * p) (3 * q) (omega arith))
+    (at (3 * p + 1) (3 * q + 1) (omega arith))
+    (at (3 * p + 2) (3 * q + 2) (omega arith))
+  where
+    at : (x y : ℕ) → y ≡ length a + x → getD (a ++ b) y (pos 0) ≡ getD b x (pos 0)
+    at x y f = rw f (getD-append-add a b x (pos 0))
+
+module _ (t : Tape) (g : Grid) (h : List ℕ) where
+  pixel-size : (i j k : ℕ) → length (pixelSlopes t g i j k) ≡ 3
+  pixel-size i j zero = refl
+  pixel-size i j (suc k) = refl
+
+  row-size : (n i j : ℕ) → length (rowSlopes n i j t g h) ≡ 3 * n
+  unfolding rowSlopes
+  row-size zero i j = refl
+  row-size (suc n) i j =
+      let k = getD h (j * g .width + i) 0 in
+      omega (
+        arith,
+        length-append (pixelSlopes t g i j k) (rowSlopes n (suc i) j t g h),
+        pixel-size i j k,
+        row-size n (suc i) j,
+      )
+
+  rows-size : (n j : ℕ) → length (rowsSlopes n j t g h) ≡ 3 * (n * g .width)
+  unfolding rowsSlopes
+  rows-size zero j = omega arith
+  rows-size (suc n) j =
+      omega (
+        arith,
+        length-append (rowSlopes (g .width) 0 j t g h) (rowsSlopes n (suc j) t g h),
+        row-size (g .width) 0 j,
+        rows-size n (suc j),
+      )
+
+  row-three : (n i j x k : ℕ) → x < n → k ≡ i + x
+      → threeAt (rowSlopes n i j t g h) x ≡ pixelSlopes t g k j (getD h (j * g .width + k) 0)
+  unfolding rowSlopes
+  row-three zero i j x k l e = absurd (omega arith)
+  row-three (suc n) i j zero k l e =
+      let d : k ≡ i = omega arith in
+      rw d (three-first t g i j (getD h (j * g .width + i) 0) (rowSlopes n (suc i) j t g h))
+  row-three (suc n) i j (suc x) k l e =
+      three-after (pixelSlopes t g i j (getD h (j * g .width + i) 0)) (rowSlopes n (suc i) j t g h) 1 x (suc x)
+      (pixel-size i j (getD h (j * g .width + i) 0)) (omega arith)
+      ∙ row-three n (suc i) j x k (omega arith) (omega arith)
+
+  rows-three : (n j p x y k : ℕ) → x < g .width → y < n → p ≡ y * g .width + x → k ≡ j + y
+      → threeAt (rowsSlopes n j t g h) p ≡ pixelSlopes t g x k (getD h (k * g .width + x) 0)
+  unfolding rowsSlopes
+  rows-three zero j p x y k l m e d = absurd (omega arith)
+  rows-three (suc n) j p x zero k l m e d =
+      let a : p ≡ x = omega arith in
+      let c : k ≡ j = omega arith in
+      rw (a, c)
+      (three-before (rowSlopes (g .width) 0 j t g h) (rowsSlopes n (suc j) t g h) (g .width) x
+      (row-size (g .width) 0 j) l
+      ∙ row-three (g .width) 0 j x x l (omega arith))
+  rows-three (suc n) j p x (suc y) k l m e d =
+      three-after (rowSlopes (g .width) 0 j t g h) (rowsSlopes n (suc j) t g h) (g .width) (y * g .width + x) p
+      (row-size (g .width) 0 j) (omega arith)
+      ∙ rows-three n (suc j) (y * g .width + x) x y k l (omega arith) refl (omega arith)
+
+  pub show-slopes : ShowSlopes t g h (slopesOf t g h)
+  unfolding slopesOf
+  show-slopes =
+      record {
+        size = rows-size (g .height) 0;
+        pixel = λ i j x y. rows-three (g .height) 0 (j * g .width + i) i j j x y refl (omega arith);
+      }
+
+-- "Slopes from the tape run for the region that set the height equal those from the full tape".
+pub visible-slopes : (t : Tape) → Good t → (g : Grid) (isSolid : Bool) → isSolid ≡ solid g → gridFault isSolid g ≡ 0
+    → (h : List ℕ) → ((p : ℕ) → getD h p 0 ≤ layers g) → VisibleSlopes t g h (slopesOf t g h)
+visible-slopes t good g isSolid e f h most =
+    record {
+      set-by = λ i j k v rs q p u. let a = around-in-walk g rs q p i j k u in at i j k v rs (a .0) (a .1 .1) (a .1 .0);
+      inside = λ i j k x y v rs p u. at i j k v rs p (in-grid i j k x y v) u;
+    }
+  where
+    at : (i j k : ℕ) → getD h (j * g .width + i) 0 ≡ suc k → (rs : List Region) → InWalk g rs → InGrid g i j k
+        → Inside (lastIn whole rs) i j k
+        → threeAt (slopesOf t g h) (j * g .width + i)
+        ≡ listed (slopesAt (shortAfter t (map (boxOf g) rs)) (sampleAt g i j k))
+    at i j k v rs p n u =
+        show-slopes t g h .pixel i j (n .x-in) (n .y-in)
+        ∙ ap (λ (z : ℕ). pixelSlopes t g i j z) v
+        ∙ ap (λ (z : Slopes). listed z) (sym (same-slopes-in-walk t good g isSolid e f rs p i j k n u))
+
+    in-grid : (i j k : ℕ) → i < g .width → j < g .height → getD h (j * g .width + i) 0 ≡ suc k → InGrid g i j k
+    in-grid i j k x y v = let z = most (j * g .width + i) in omega (arith, v)

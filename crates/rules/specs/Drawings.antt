@@ -304,6 +304,14 @@ pub record InGrid (g : Grid) (x y z : ℕ) : Type 0 where
   pub y-in : y < g .height
   pub z-in : z < layers g
 
+-- Filling the region q raises the pixel (i, j), one of q's, to the height k + 1: "the region's greatest z index + 1".
+pub record RaisesTo (g : Grid) (q : Region) (i j k : ℕ) : Type 0 where
+  pub x-from : q .i ≤ i
+  pub x-to : i < pastX g q
+  pub y-from : q .j ≤ j
+  pub y-to : j < pastY g q
+  pub height : pastZ g q ≡ suc k
+
 -- Demand 3, of one tape: the tile drawing is the full drawing; a shortened tape has the full tape's value at every
 -- sample of its region, said of any boxes that hold the sample and of the walk's own regions; a range holds every value
 -- over its box; and the bound of the count in each 64-tile.

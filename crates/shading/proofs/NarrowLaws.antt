@@ -27,10 +27,11 @@ use Rattle.walk.specs.Cells.{SpanIn, spanOf}
 use Rattle.walk.specs.Walks.{Level}
 use Rattle.walk.proofs.CellLaws.{kind}
 use Rattle.walk.proofs.LookLaws.{fit-of, lent-words}
-use Rattle.shading.specs.declared.block.Block.{Block}
-use Rattle.shading.specs.declared.block.Layers.{Layers}
-use Rattle.shading.specs.Shades.{BlockIn, Within, Shading, LayersIn, boxAt}
-use Rattle.shading.specs.Shades.{BlockBox, Narrowed}
+use Rattle.sloped_pixels.specs.declared.block.Block.{Block}
+use Rattle.sloped_pixels.specs.declared.block.Layers.{Layers}
+use Rattle.sloped_pixels.specs.Shades.{BlockIn, Within, Shading}
+use Rattle.shading.specs.Narrow.{LayersIn, boxAt}
+use Rattle.shading.specs.Narrow.{BlockBox, Narrowed}
 
 -- A sample lies between the first and the last one of a span of its axis.
 span-holds : {o s : ℤ} {n : ℕ} → Axis o s n → (i e x : ℕ) → i ≤ x → x < e → e ≤ n → Holds (spanOf o s i e) (at o s x)

@@ -2,7 +2,7 @@
 use mathlib.Core.Path.{_≡_, refl, sym, ap, _∙_}
 use mathlib.Core.Bool.{Bool, true, false}
 use mathlib.Core.List.{List, [], _∷_}
-use Prim.Native.Nat.{ℕ, zero, suc, _+_, _-_, _*_, _≤_, _<_}
+use Prim.Native.Nat.{ℕ, zero, suc, _+_, _*_, _≤_, _<_}
 use native.Mathlib.Nat.{mul-comm}
 use native.Mathlib.Omega.{arith}
 use lib.Dec.{leb}
@@ -10,19 +10,18 @@ use lib.IntN.{ℤ, pos}
 use lib.ListN.{length, getD, replicate}
 use borrow.Author.Tests.{leb-true, leb-false}
 use Rattle.rules.specs.Tapes.{Tape}
-use Rattle.rules.specs.Drawings.{lesser}
 use Rattle.rules.specs.Slopes.{threeAt, pixelSlopes}
 use Rattle.rules.proofs.Algebra.{of-replicate}
-use Rattle.rules.proofs.Regions.{lesser-both, lesser-most}
 use Rattle.rules.proofs.SlopePixels.{slopes-shown}
 use Rattle.code.specs.Words.{tapeIn}
 use Rattle.picture.specs.Shapes.{gridIn}
 use Rattle.picture.specs.declared.grid.Grid.{Grid}
-use Rattle.shading.specs.declared.block.Block.{Block}
-use Rattle.shading.specs.declared.block.Layers.{Layers}
-use Rattle.shading.specs.Shades.{Fits, blockAt, BlockIn, Within, Right, Seen, layersAt, allOf}
-use Rattle.shading.specs.Shades.{Shades, Alike, Shading, Shaded, Tops}
-use Rattle.shading.proofs.ShadeLaws.{shading-none}
+use Rattle.sloped_pixels.specs.declared.block.Block.{Block}
+use Rattle.sloped_pixels.specs.declared.block.Layers.{Layers}
+use Rattle.sloped_pixels.specs.Shades.{Fits, blockAt, BlockIn, Within, Right, Seen, layersAt, allOf}
+use Rattle.sloped_pixels.specs.Shades.{Shades, Alike, Shading, Tight}
+use Rattle.shading.specs.Narrow.{Shaded}
+use Rattle.sloped_pixels.proofs.ShadeLaws.{shading-none}
 
 -- The words stand for the tape in every part of a window.
 alike-less : {t : Tape} {ws : List ℕ} {grid : Grid} {h : List ℕ} {c : Block} (l m : Layers) → l .from ≤ m .from
@@ -35,97 +34,113 @@ alike-less l m p q a =
           a .same i j k w (record { above = omega (arith, s .above, p); most = omega (arith, s .most, q) }) e;
     }
 
--- No pixel's height lies in a window above the greatest height up to its end.
-module _ {ws : List ℕ} {grid : Grid} {h : List ℕ} {win : Layers} {c : Block} {r : ℕ} (b : List ℤ)
-    (v : Tops grid h c (win .end) 0 r) where
-  pub shading-nothing : r ≤ win .from → Shading ws grid h win c c b b
-  shading-nothing l = shading-none c b (λ i j w s. omega (arith, v .all i j w (s .most), s .above, l))
-
-  -- A window may end at that height.
-  pub shading-tight : {b′ : List ℤ} → Shading ws grid h (layersAt (win .from) r) c c b b′ → Shading ws grid h win c c b b′
+-- A window r that has every height of the block that win has: shaded in the one, it is so in the other.
+module _ {ws : List ℕ} {grid : Grid} {h : List ℕ} {win r : Layers} {c : Block} (b : List ℤ)
+    (v : Tight grid h c win r) where
+  pub shading-tight : {b′ : List ℤ} → Shading ws grid h r c c b b′ → Shading ws grid h win c c b b′
   shading-tight {b′} s =
       record {
         shades = λ t o.
-            let p = s .shades t (alike-less win (layersAt (win .from) r) (omega arith) (v .most) o) in
-            record {
-              kept = p .kept;
-              done = λ i j w u. p .done i j w (record { above = u .above; most = v .all i j w (u .most) });
-            };
+            let p = s .shades t (alike-less win r (v .from) (v .end) o) in
+            record { kept = p .kept; done = λ i j w u. p .done i j w (v .has i j w u) };
       }
 
--- The loop is at top: the heights above it are shaded.
-pub record AtTop (ws : List ℕ) (grid : Grid) (h : List ℕ) (c : Block) (b b′ : List ℤ) (top : ℕ) : Type 0 where
-  pub in-grid : top ≤ grid .depth
-  pub shaded : Shading ws grid h (layersAt top (grid .depth)) c c b b′
+  pub shading-nothing : r .end ≤ r .from → Shading ws grid h win c c b b
+  shading-nothing l =
+      shading-none c b (λ i j w s. let u = v .has i j w s in omega (arith, u .above, u .most, l))
+
+-- The loop has the layers left: every height of the block but 0 is above their first, and shaded if it is above their
+-- last.
+pub record AtLeft (ws : List ℕ) (grid : Grid) (h : List ℕ) (c : Block) (b b′ : List ℤ) (left : Layers) : Type 0 where
+  pub in-grid : left .end ≤ grid .depth
+  pub above : (i j : ℕ) → Within c i j → Seen grid h (allOf grid) i j → left .from < getD h (j * grid .width + i) 0
+  pub shaded : Shading ws grid h (layersAt (left .end) (grid .depth)) c c b b′
   pub size : length b′ ≡ length b
 
--- A window of at most 16 layers begins below its end.
-pub window-below : {m : ℕ} (top : ℕ) → m ≡ lesser top 16 → 0 < top → top - m < top
-window-below {m} top e l = let k = lesser-both 0 top 16 l (omega arith) in omega arith
-
-pub window-most : {m : ℕ} (top : ℕ) → m ≡ lesser top 16 → m ≤ top
-window-most {m} top e = let k = lesser-most top 16 .0 in omega arith
-
 module _ {ws : List ℕ} {grid : Grid} {h : List ℕ} {c : Block} (k : BlockIn grid c) where
-  pub top-begins : {r : ℕ} (b : List ℤ) → Tops grid h c (grid .depth) 0 r → AtTop ws grid h c b b r
-  top-begins {r} b v =
+  pub left-begins : {r : Layers} (b : List ℤ) → Tight grid h c (allOf grid) r → AtLeft ws grid h c b b r
+  left-begins {r} b v =
       record {
-        in-grid = v .most;
-        shaded = shading-nothing {win = layersAt r (grid .depth)} b v (omega arith);
+        in-grid = v .end;
+        above = λ i j w s. v .has i j w s .above;
+        shaded = shading-none c b (λ i j w s. none i j w s);
         size = refl;
       }
-
-  pub top-next : {b b₁ b₂ : List ℤ} {top r : ℕ} (from : ℕ) → AtTop ws grid h c b b₁ top → from < top
-      → Shading ws grid h (layersAt from top) c c b₁ b₂ → length b₂ ≡ length b₁ → Tops grid h c from 0 r
-      → AtTop ws grid h c b b₂ r
-  top-next {b} {b₁} {b₂} {top} {r} from a l s e v =
-      record {
-        in-grid = omega (arith, v .most, l, a .in-grid);
-        shaded = record {
-          shades = λ t o. both t
-              (a .shaded .shades t
-              (alike-less (layersAt r (grid .depth)) (layersAt top (grid .depth))
-              (omega (arith, v .most, l)) (omega arith) o))
-              (s .shades t (alike-less (layersAt r (grid .depth)) (layersAt from top) (v .most) (a .in-grid) o));
-        };
-        size = e ∙ a .size;
-      }
     where
-      both : (t : Tape) → Shades t grid h (layersAt top (grid .depth)) c b b₁
-          → Shades t grid h (layersAt from top) c b₁ b₂
-          → Shades t grid h (layersAt r (grid .depth)) c b b₂
-      both t p q =
-          record {
-            kept = λ i j m n u. q .kept i j m n (p .kept i j m n u);
-            done = λ i j w u. by i j w u (leb (getD h (j * grid .width + i) 0) top) refl;
-          }
-        where
-          by : (i j : ℕ) → Within c i j → Seen grid h (layersAt r (grid .depth)) i j → (d : Bool)
-              → leb (getD h (j * grid .width + i) 0) top ≡ d → Right t grid h b₂ i j
-          by i j w u false x =
-              let y = leb-false (getD h (j * grid .width + i) 0) top x in
-              q .kept i j (omega (arith, w .x-to, k .x-in)) (omega (arith, w .y-to, k .y-in))
-              (p .done i j w (record { above = omega arith; most = u .most }))
-          by i j w u true x =
-              let y = leb-true (getD h (j * grid .width + i) 0) top x in
-              let z = under i j w u (leb (getD h (j * grid .width + i) 0) from) refl in
-              q .done i j w (record { above = z; most = y })
-            where
-              under : (i j : ℕ) → Within c i j → Seen grid h (layersAt r (grid .depth)) i j → (d : Bool)
-                  → leb (getD h (j * grid .width + i) 0) from ≡ d → from < getD h (j * grid .width + i) 0
-              under i j w u false z =
-                  let y = leb-false (getD h (j * grid .width + i) 0) from z in
-                  omega arith
-              under i j w u true z =
-                  let y = v .all i j w (leb-true (getD h (j * grid .width + i) 0) from z) in
-                  omega (arith, y, u .above)
+      none : (i j : ℕ) → Within c i j → Seen grid h (layersAt (r .end) (grid .depth)) i j → ⊥
+      none i j w s =
+          let u = v .has i j w (record { above = omega (arith, s .above); most = s .most }) in
+          omega (arith, s .above, u .most)
 
-  pub top-done : {b b′ : List ℤ} {top : ℕ} → AtTop ws grid h c b b′ top → top ≤ 0
+  -- The window from the layer from on is shaded, and of the layers below it those are left that have heights.
+  module _ {b b₁ b₂ : List ℤ} {left r : Layers} (from : ℕ) (a : AtLeft ws grid h c b b₁ left) (l : from < left .end)
+      (s : Shading ws grid h (layersAt from (left .end)) c c b₁ b₂)
+      (v : Tight grid h c (layersAt (left .from) from) r) where
+    -- A height is above the window, in it, or below it and left.
+    by-height : (t : Tape) → Shades t grid h (layersAt (left .end) (grid .depth)) c b b₁
+        → Shades t grid h (layersAt from (left .end)) c b₁ b₂ → (i j : ℕ) → Within c i j
+        → Seen grid h (layersAt (r .end) (grid .depth)) i j → (d e : Bool)
+        → leb (getD h (j * grid .width + i) 0) (left .end) ≡ d → leb (getD h (j * grid .width + i) 0) from ≡ e
+        → Right t grid h b₂ i j
+    by-height t p q i j w u false e x y =
+        let z = leb-false (getD h (j * grid .width + i) 0) (left .end) x in
+        q .kept i j (omega (arith, w .x-to, k .x-in)) (omega (arith, w .y-to, k .y-in))
+        (p .done i j w (record { above = z; most = u .most }))
+    by-height t p q i j w u true false x y =
+        let z = leb-true (getD h (j * grid .width + i) 0) (left .end) x in
+        let o = leb-false (getD h (j * grid .width + i) 0) from y in
+        q .done i j w (record { above = o; most = z })
+    by-height t p q i j w u true true x y =
+        let o = leb-true (getD h (j * grid .width + i) 0) from y in
+        let n = a .above i j w (record { above = omega (arith, u .above); most = u .most }) in
+        let m = v .has i j w (record { above = n; most = o }) in
+        absurd (omega (arith, m .most, u .above))
+
+    pub left-next : length b₂ ≡ length b₁ → AtLeft ws grid h c b b₂ r
+    left-next e =
+        record {
+          in-grid = omega (arith, v .end, l, a .in-grid);
+          above = λ i j w u. above-next i j w u (leb (getD h (j * grid .width + i) 0) from) refl;
+          shaded = record {
+            shades = λ t o.
+                let p = a .shaded .shades t
+                (alike-less (layersAt (r .end) (grid .depth)) (layersAt (left .end) (grid .depth))
+                (omega (arith, v .end, l)) (omega arith) o) in
+                let q = s .shades t
+                (alike-less (layersAt (r .end) (grid .depth)) (layersAt from (left .end)) (v .end)
+                (a .in-grid) o) in
+                record {
+                  kept = λ i j m n u. q .kept i j m n (p .kept i j m n u);
+                  done = λ i j w u.
+                      by-height t p q i j w u (leb (getD h (j * grid .width + i) 0) (left .end))
+                      (leb (getD h (j * grid .width + i) 0) from) refl refl;
+                };
+          };
+          size = e ∙ a .size;
+        }
+      where
+        above-next : (i j : ℕ) → Within c i j → Seen grid h (allOf grid) i j → (d : Bool)
+            → leb (getD h (j * grid .width + i) 0) from ≡ d → r .from < getD h (j * grid .width + i) 0
+        above-next i j w u false x =
+            let o = leb-false (getD h (j * grid .width + i) 0) from x in
+            omega (arith, o, v .most)
+        above-next i j w u true x =
+            let o = leb-true (getD h (j * grid .width + i) 0) from x in
+            v .has i j w (record { above = a .above i j w u; most = o }) .above
+
+  pub left-done : {b b′ : List ℤ} {left : Layers} → AtLeft ws grid h c b b′ left → left .end ≤ left .from
       → Shading ws grid h (allOf grid) c c b b′
-  top-done {b} {b′} {top} a l = rw (none top l) at (a .shaded)
-    where
-      none : (n : ℕ) → n ≤ 0 → n ≡ 0
-      none n p = omega arith
+  left-done {b} {b′} {left} a l =
+      record {
+        shades = λ t o.
+            let p = a .shaded .shades t
+            (alike-less (allOf grid) (layersAt (left .end) (grid .depth)) (omega arith) (omega arith) o) in
+            record {
+              kept = p .kept;
+              done = λ i j w u.
+                  p .done i j w (record { above = omega (arith, a .above i j w u, l); most = u .most });
+            };
+      }
 
 -- Without material every pixel has three zeros.
 three-none : (n p : ℕ) → threeAt (replicate n (pos 0)) p ≡ pos 0 ∷ (pos 0 ∷ (pos 0 ∷ []))

@@ -1,2 +1,2 @@
--- What the contracts of this crate cite besides the rules.
-pub mod Shades
+-- What a block's short tape promises, and the shading of a whole picture (Narrow).
+pub mod Narrow

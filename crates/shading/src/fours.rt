@@ -1,11 +1,11 @@
 // Side 4: blocks of side 4 in one of side 16, in the same window of layers, each with its own short tape.
-use crate::block::Block;
-use crate::block::Layers;
-use crate::block::top_in;
 use crate::narrow::narrow;
-use crate::pixels::shade_rows;
 use picture::grid::Grid;
 use shortening::marks::mark_room;
+use sloped_pixels::block::Block;
+use sloped_pixels::block::Layers;
+use sloped_pixels::block::seen_in;
+use sloped_pixels::pixels::shade_rows;
 use tape::SLOT_LIMIT;
 use walk::cell::lesser;
 ghost use mathlib.Core.Path.{_≡_};
@@ -13,7 +13,8 @@ ghost use Prim.Native.Nat.{_≤_};
 ghost use lib.ListN.{length};
 ghost use Rattle.slopes.specs.Shapes.{slotsOf, Sized};
 ghost use Rattle.walk.specs.Walks.{Level, MarksFit};
-ghost use Rattle.shading.specs.Shades.{Fits, BlockIn, LayersIn, Shading};
+ghost use Rattle.sloped_pixels.specs.Shades.{Fits, BlockIn, Shading};
+ghost use Rattle.shading.specs.Narrow.{LayersIn};
 
 fn visit_four(
     whole: &[u64],
@@ -43,14 +44,10 @@ fn visit_four(
         (now (slopes .entry)) (now (slopes .exit)) ⌝ }
     ensures { λ _. ⌜ Sized (slotsOf (now (values .exit)) (now (xs .exit)) (now (ys .exit)) (now (zs .exit))) ⌝ }
 {
-    let top = top_in(picture, grid, block, window.end);
-    if top <= window.from {
+    let tight = seen_in(picture, grid, block, window);
+    if tight.end <= tight.from {
         return;
     }
-    let tight = Layers {
-        from: window.from,
-        end: top,
-    };
     let base = whole.len() + mark_room(whole.len());
     let start = narrow(
         whole,
@@ -79,7 +76,7 @@ fn visit_four(
     );
 }
 
-// One row of blocks, as high as they are.
+// One row of blocks, at most 4 pixels along y.
 fn four_row(
     whole: &[u64],
     code: &[u64],

@@ -1,10 +1,10 @@
 // The short tape of a block: of the box that its visible samples lie in.
-use crate::block::Block;
-use crate::block::Layers;
 use code::run::run_ranges;
 use fixed::clause::Bounds;
 use picture::grid::Grid;
 use shortening::cut::cut;
+use sloped_pixels::block::Block;
+use sloped_pixels::block::Layers;
 use walk::cell::span;
 ghost use mathlib.Core.Path.{_≡_};
 ghost use mathlib.Core.Bool.{true};
@@ -15,7 +15,8 @@ ghost use Rattle.fixed.specs.Shapes.{boxIn};
 ghost use Rattle.shortening.specs.Kept.{markRoom};
 ghost use Rattle.picture.specs.Shapes.{gridIn};
 ghost use Rattle.walk.specs.Walks.{Level};
-ghost use Rattle.shading.specs.Shades.{BlockIn, LayersIn, BlockBox, Narrowed};
+ghost use Rattle.sloped_pixels.specs.Shades.{BlockIn};
+ghost use Rattle.shading.specs.Narrow.{LayersIn, BlockBox, Narrowed};
 
 fn bounds(grid: Grid, block: Block, layers: Layers) -> Bounds
     requires { ⌜ gridFault true (gridIn grid true) ≡ 0 ⌝ }

@@ -1,21 +1,22 @@
 // Side 16: blocks of side 16 of the picture, with a short tape for each window of layers, which the blocks of side 4
 // start from; and the whole picture.
-use crate::block::Block;
-use crate::block::Layers;
-use crate::block::top_in;
 use crate::fours::four_rows;
 use crate::narrow::narrow;
-use crate::pixels::clear;
 use picture::grid::Grid;
 use shortening::expand::whole_places;
+use sloped_pixels::block::Block;
+use sloped_pixels::block::Layers;
+use sloped_pixels::block::seen_in;
+use sloped_pixels::pixels::clear;
 use tape::SLOT_LIMIT;
 use walk::cell::lesser;
 ghost use mathlib.Core.Path.{_≡_};
-ghost use Prim.Native.Nat.{_≤_};
+ghost use Prim.Native.Nat.{_≤_, _<_};
 ghost use lib.ListN.{length};
 ghost use Rattle.slopes.specs.Shapes.{slotsOf, Sized};
 ghost use Rattle.walk.specs.Walks.{Sound, Level, MarksFit};
-ghost use Rattle.shading.specs.Shades.{Fits, allOf, BlockIn, LayersIn, Shading, Shaded};
+ghost use Rattle.sloped_pixels.specs.Shades.{Fits, allOf, BlockIn, Shading};
+ghost use Rattle.shading.specs.Narrow.{LayersIn, Shaded};
 
 // The pixels of a block whose heights lie in a window.
 fn shade_window(
@@ -81,7 +82,19 @@ fn shade_window(
     );
 }
 
-// Windows of 16 layers, from the greatest height down: heights that no pixel has are passed over.
+// Where the highest 32 of some layers begin, or all of them.
+fn upper_from(layers: Layers) -> u32
+    requires { ⌜ layers .from < layers .end ⌝ }
+    ensures { λ r. ⌜ (layers .from ≤ r) × (r < layers .end) ⌝ }
+{
+    if layers.end - layers.from <= 32 {
+        layers.from
+    } else {
+        layers.end - 32
+    }
+}
+
+// Windows of at most 32 layers, from the greatest height down: heights that no pixel has are passed over.
 fn visit_sixteen(
     whole: &[u64],
     places: &[u16],
@@ -110,12 +123,16 @@ fn visit_sixteen(
         (now (slopes .entry)) (now (slopes .exit)) ⌝ }
     ensures { λ _. ⌜ Sized (slotsOf (now (values .exit)) (now (xs .exit)) (now (ys .exit)) (now (zs .exit))) ⌝ }
 {
-    let mut top = top_in(picture, grid, block, grid.depth);
-    while 0 < top {
-        let from = top - lesser(top, 16);
+    let all = Layers {
+        from: 0,
+        end: grid.depth,
+    };
+    let mut left = seen_in(picture, grid, block, all);
+    while left.from < left.end {
+        let from = upper_from(left);
         let window = Layers {
             from: from,
-            end: top,
+            end: left.end,
         };
         shade_window(
             whole,
@@ -135,11 +152,15 @@ fn visit_sixteen(
             ys,
             zs,
         );
-        top = top_in(picture, grid, block, from);
+        let below = Layers {
+            from: left.from,
+            end: from,
+        };
+        left = seen_in(picture, grid, block, below);
     }
 }
 
-// One row of blocks, as high as they are.
+// One row of blocks, at most 16 pixels along y.
 fn sixteen_row(
     whole: &[u64],
     places: &[u16],

@@ -7,7 +7,7 @@ use lib.ListN.{length}
 use Rattle.slopes.specs.Shapes.{slotsOf, Sized}
 use Rattle.walk.specs.Cells.{Ends}
 use Rattle.walk.proofs.CellLaws.{small, ends}
-use Rattle.shading.proofs.ShadeLaws.{columns-in, fits-again, AtColumn, columns-begin, columns-next, columns-done}
+use Rattle.sloped_pixels.proofs.ShadeLaws.{columns-in, fits-again, AtColumn, columns-begin, columns-next, columns-done}
 use borrow.Author.Needs.{needs}
 use Rattle.shading.proofs.fours.four_row.Statement.{statement}
 use Rattle.shading.proofs.fours.four_row.Tie as tie

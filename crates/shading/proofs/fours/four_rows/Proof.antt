@@ -7,7 +7,7 @@ use lib.ListN.{length}
 use Rattle.slopes.specs.Shapes.{slotsOf, Sized}
 use Rattle.walk.specs.Cells.{Ends}
 use Rattle.walk.proofs.CellLaws.{small, ends}
-use Rattle.shading.proofs.ShadeLaws.{rows-in, fits-again, AtRow, rows-begin, rows-next, rows-done}
+use Rattle.sloped_pixels.proofs.ShadeLaws.{rows-in, fits-again, AtRow, rows-begin, rows-next, rows-done}
 use borrow.Author.Needs.{needs}
 use Rattle.shading.proofs.fours.four_rows.Statement.{statement}
 use Rattle.shading.proofs.fours.four_rows.Tie as tie

@@ -10,10 +10,10 @@ use Rattle.shading.proofs.fours.visit_four.Tie as tie
 abbrev begun : tie.After-slice-known3 → tie.Start
 begun c = c .before .before .before .before .before .before .before
 
-abbrev looked : tie.Then1 → tie.After-top-in
-looked c = c .before .before
+abbrev seen : tie.Then1 → tie.After-seen-in
+seen c = c .before .before
 
-abbrev topped : tie.Else1 → tie.After-top-in
+abbrev topped : tie.Else1 → tie.After-seen-in
 topped c = c .before .before
 
 abbrev start : tie.Else1 → tie.Start
@@ -28,14 +28,14 @@ narrowed c = c .before .before .before .before .before .before
 abbrev lent : tie.After-shade-rows-arg5 → tie.After-slice-known6
 lent c = c .before .before .before .before .before .before .before
 
-top-in-requires : tie.Need-top-in-requires
-top-in-requires c κs = let p = begun c .pre .1 in (p .0 .heights, p .1 .0)
+seen-in-requires : tie.Need-seen-in-requires
+seen-in-requires c κs = let p = begun c .pre .1 in (p .0 .heights, (p .1 .0, omega (arith, p .1 .1 .1 .0 .some)))
 
 returns : tie.Need-returns
 returns c =
-    let t = looked c in
+    let t = seen c in
     let s = begun (t .before) in
-    (shading-nothing {win = s .args .window} _ (t .top-in .ensures) (c .if1 .taken), s .pre .1 .1 .1 .1 .1)
+    (shading-nothing _ (t .seen-in .ensures) (c .if1 .taken), s .pre .1 .1 .1 .1 .1)
 
 mark-room-requires : tie.Need-mark-room-requires
 mark-room-requires c κs = start c .pre .0 .kept .kept .within
@@ -61,7 +61,7 @@ narrow-requires c κs =
           (
             record {
               some = omega (arith, e .if1 .left);
-              in-grid = omega (arith, topped e .top-in .ensures .most, k .1 .0 .in-grid);
+              in-grid = omega (arith, topped e .seen-in .ensures .end, k .1 .0 .in-grid);
             },
             ((omega arith, omega arith), (omega arith, omega arith)),
           ),
@@ -110,7 +110,7 @@ returns-2 c =
     let v = c .before .shade-rows .ensures in
     let n = narrowed (lent (c .before .before)) in
     let e = in-case n in (
-      shading-tight {win = start e .args .window} _ (topped e .top-in .ensures)
+      shading-tight _ (topped e .seen-in .ensures)
           (shading-narrowed (n .narrow .ensures) (v .0)),
       v .1,
     )
@@ -119,7 +119,7 @@ pub visit-four-spec : {M : Type 1} → statement M
 visit-four-spec =
     tie.close
     (tie.spec
-    top-in-requires
+    seen-in-requires
     returns
     mark-room-requires
     add-base

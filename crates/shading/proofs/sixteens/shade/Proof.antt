@@ -6,7 +6,7 @@ use lib.Seq.{length-take-le}
 use Rattle.shortening.proofs.KeptLaws.{places-kept}
 use Rattle.walk.proofs.CellLaws.{first-in}
 use Rattle.walk.proofs.LookLaws.{sound-length}
-use Rattle.shading.proofs.ShadeLaws.{fits-again}
+use Rattle.sloped_pixels.proofs.ShadeLaws.{fits-again}
 use Rattle.shading.proofs.WindowLaws.{all-shaded}
 use borrow.Author.Needs.{needs}
 use Rattle.shading.proofs.sixteens.shade.Statement.{statement}

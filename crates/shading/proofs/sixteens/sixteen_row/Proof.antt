@@ -7,8 +7,8 @@ use lib.ListN.{length}
 use Rattle.slopes.specs.Shapes.{slotsOf, Sized}
 use Rattle.walk.specs.Cells.{Ends}
 use Rattle.walk.proofs.CellLaws.{small, ends}
-use Rattle.shading.specs.Shades.{allOf}
-use Rattle.shading.proofs.ShadeLaws.{columns-in, fits-again, AtColumn, columns-begin, columns-next, columns-done}
+use Rattle.sloped_pixels.specs.Shades.{allOf}
+use Rattle.sloped_pixels.proofs.ShadeLaws.{columns-in, fits-again, AtColumn, columns-begin, columns-next, columns-done}
 use borrow.Author.Needs.{needs}
 use Rattle.shading.proofs.sixteens.sixteen_row.Statement.{statement}
 use Rattle.shading.proofs.sixteens.sixteen_row.Tie as tie

@@ -4,15 +4,15 @@ use Prim.Native.Nat.{_-_, _<_}
 use native.Mathlib.Omega.{arith}
 use lib.ListN.{length}
 use Rattle.slopes.specs.Shapes.{slotsOf, Sized}
-use Rattle.shading.proofs.ShadeLaws.{fits-again}
-use Rattle.shading.proofs.WindowLaws.{AtTop, window-below, window-most, top-begins, top-next, top-done}
+use Rattle.sloped_pixels.proofs.ShadeLaws.{fits-again}
+use Rattle.shading.proofs.WindowLaws.{AtLeft, left-begins, left-next, left-done}
 use borrow.Author.Needs.{needs}
 use Rattle.shading.proofs.sixteens.visit_sixteen.Statement.{statement}
 use Rattle.shading.proofs.sixteens.visit_sixteen.Tie as tie
 
 abbrev Inv-loop : tie.InvT-loop
-Inv-loop whole places grid block picture slopes₀ work₀ first₀ firstplaces₀ second₀ secondplaces₀ values₀ xs₀ ys₀ zs₀ top₀ slopes work first firstplaces second secondplaces values xs ys zs top =
-    AtTop whole grid picture block slopes₀ slopes top
+Inv-loop whole places grid block picture slopes₀ work₀ first₀ firstplaces₀ second₀ secondplaces₀ values₀ xs₀ ys₀ zs₀ left₀ slopes work first firstplaces second secondplaces values xs ys zs left =
+    AtLeft whole grid picture block slopes₀ slopes left
     × (length work ≡ length work₀)
     × (length first ≡ length first₀)
     × (length firstplaces ≡ length firstplaces₀)
@@ -21,9 +21,9 @@ Inv-loop whole places grid block picture slopes₀ work₀ first₀ firstplaces�
     × Sized (slotsOf values xs ys zs)
 
 abbrev μ-loop : tie.MeasureT-loop
-μ-loop whole places grid block picture slopes₀ work₀ first₀ firstplaces₀ second₀ secondplaces₀ values₀ xs₀ ys₀ zs₀ top₀ slopes work first firstplaces second secondplaces values xs ys zs top = top
+μ-loop whole places grid block picture slopes₀ work₀ first₀ firstplaces₀ second₀ secondplaces₀ values₀ xs₀ ys₀ zs₀ left₀ slopes work first firstplaces second secondplaces values xs ys zs left = left .end
 
--- The places: the start, before and after the first greatest height; a turn of the loop, once its window is known, and
+-- The places: the start, before and after the first window is known; a turn of the loop, once its window is known, and
 -- after the call; and past the loop.
 abbrev begun : tie.After-slice-known5 Inv-loop μ-loop → tie.Start Inv-loop μ-loop
 begun c = c .before .before .before .before .before .before .before .before
@@ -31,33 +31,25 @@ begun c = c .before .before .before .before .before .before .before .before
 abbrev start : tie.At-loop Inv-loop μ-loop → tie.Start Inv-loop μ-loop
 start c = begun (c .before .before)
 
-abbrev in-turn : tie.After-lesser Inv-loop μ-loop → tie.At-loop Inv-loop μ-loop
-in-turn c = c .before .before
+abbrev in-turn : tie.After-upper-from Inv-loop μ-loop → tie.At-loop Inv-loop μ-loop
+in-turn c = c .before .before .before
 
-abbrev lent : tie.After-shade-window-arg10 Inv-loop μ-loop → tie.After-lesser Inv-loop μ-loop
+abbrev lent : tie.After-shade-window-arg10 Inv-loop μ-loop → tie.After-upper-from Inv-loop μ-loop
 lent c = c .before .before .before .before .before .before .before .before .before .before
 
 abbrev called : tie.After-slice-known10 Inv-loop μ-loop → tie.After-shade-window Inv-loop μ-loop
 called c = c .before .before .before .before .before .before .before .before .before .before .before
 
--- The window begins below its end.
-below : (c : tie.After-lesser Inv-loop μ-loop)
-    → (let top = in-turn c .loop .top in top - c .lesser .result < top)
-below c = window-below _ (c .lesser .ensures) (c .before .loop-test .taken)
-
-top-in-requires : tie.Need-top-in-requires Inv-loop μ-loop
-top-in-requires c κs = let p = begun c .pre .1 in (p .0 .heights, p .1 .0)
+seen-in-requires : tie.Need-seen-in-requires Inv-loop μ-loop
+seen-in-requires c κs = let p = begun c .pre .1 in (p .0 .heights, (p .1 .0, omega arith))
 
 loop-holds : tie.Need-loop-holds Inv-loop μ-loop
 loop-holds c =
     let p = begun (c .before) .pre .1 .1 in
-    (top-begins (p .0) _ (c .top-in .ensures), refl, refl, refl, refl, refl, p .1 .1)
+    (left-begins (p .0) _ (c .seen-in .ensures), refl, refl, refl, refl, refl, p .1 .1)
 
-lesser-requires : tie.Need-lesser-requires Inv-loop μ-loop
-lesser-requires c κs = search needs
-
-sub-from : tie.Need-sub-from Inv-loop μ-loop
-sub-from c = window-most _ (c .lesser .ensures)
+upper-from-requires : tie.Need-upper-from-requires Inv-loop μ-loop
+upper-from-requires c κs = c .if1 .taken
 
 shade-window-requires : tie.Need-shade-window-requires Inv-loop μ-loop
 shade-window-requires c κs =
@@ -80,19 +72,22 @@ shade-window-requires c κs =
               omega (arith, i .4, r .3),
               omega (arith, i .5, i .4, r .4),
             ),
-            (record { some = below e; in-grid = i .0 .in-grid }, i .6),
+            (record { some = e .upper-from .ensures .1; in-grid = i .0 .in-grid }, i .6),
           ),
         ),
       ),
     )
 
-top-in-requires-2 : tie.Need-top-in-requires-2 Inv-loop μ-loop
-top-in-requires-2 c κs =
-    let p = start (in-turn (lent (called c .before))) .pre .1 in
-    (p .0 .heights, p .1 .0)
+seen-in-requires-2 : tie.Need-seen-in-requires-2 Inv-loop μ-loop
+seen-in-requires-2 c κs =
+    let e = lent (called c .before) in
+    let p = start (in-turn e) .pre .1 in
+    (p .0 .heights, (p .1 .0, e .upper-from .ensures .0))
 
 loop-less : tie.Need-loop-less Inv-loop μ-loop
-loop-less c = let e = lent (called (c .before) .before) in omega (arith, below e, c .top-in2 .ensures .most)
+loop-less c =
+    let e = lent (called (c .before) .before) in
+    omega (arith, e .upper-from .ensures .1, c .seen-in2 .ensures .end)
 
 loop-again : tie.Need-loop-again Inv-loop μ-loop
 loop-again c =
@@ -102,7 +97,8 @@ loop-again c =
     let l = in-turn e in
     let i = l .loop .inv in
     let kept = v .kept .1 .1 .1 .1 .1 .1 in (
-      top-next (start l .pre .1 .1 .0) _ (i .0) (below e) (v .ensures .0) (kept .0) (c .top-in2 .ensures),
+      left-next (start l .pre .1 .1 .0) _ (i .0) (e .upper-from .ensures .1) (v .ensures .0) (c .seen-in2 .ensures)
+          (kept .0),
       kept .1 .0 ∙ i .1,
       kept .1 .1 .0 ∙ i .2,
       kept .1 .1 .1 .0 ∙ i .3,
@@ -112,28 +108,28 @@ loop-again c =
     )
 
 same-length : tie.Need-same-length Inv-loop μ-loop
-same-length c = c .before .loop .inv .0 .size
+same-length c = c .before .before .loop .inv .0 .size
 
 same-length-2 : tie.Need-same-length-2 Inv-loop μ-loop
-same-length-2 c = c .before .loop .inv .1
+same-length-2 c = c .before .before .loop .inv .1
 
 same-length-3 : tie.Need-same-length-3 Inv-loop μ-loop
-same-length-3 c = c .before .loop .inv .2
+same-length-3 c = c .before .before .loop .inv .2
 
 same-length-4 : tie.Need-same-length-4 Inv-loop μ-loop
-same-length-4 c = c .before .loop .inv .3
+same-length-4 c = c .before .before .loop .inv .3
 
 same-length-5 : tie.Need-same-length-5 Inv-loop μ-loop
-same-length-5 c = c .before .loop .inv .4
+same-length-5 c = c .before .before .loop .inv .4
 
 same-length-6 : tie.Need-same-length-6 Inv-loop μ-loop
-same-length-6 c = c .before .loop .inv .5
+same-length-6 c = c .before .before .loop .inv .5
 
 returns : tie.Need-returns Inv-loop μ-loop
 returns c =
-    let l = c .before in
+    let l = c .before .before in
     let i = l .loop .inv in
-    (top-done (start l .pre .1 .1 .0) (i .0) (omega (arith, c .loop-test .left)), i .6)
+    (left-done (start l .pre .1 .1 .0) (i .0) (omega (arith, c .if1 .left)), i .6)
 
 pub visit-sixteen-spec : {M : Type 1} → statement M
 visit-sixteen-spec =
@@ -141,12 +137,11 @@ visit-sixteen-spec =
     (tie.spec
     Inv-loop
     μ-loop
-    top-in-requires
+    seen-in-requires
     loop-holds
-    lesser-requires
-    sub-from
+    upper-from-requires
     shade-window-requires
-    top-in-requires-2
+    seen-in-requires-2
     loop-less
     loop-again
     same-length

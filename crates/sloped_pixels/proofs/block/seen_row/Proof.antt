@@ -3,18 +3,18 @@ use mathlib.Core.Bool.{true}
 use Prim.Native.Nat.{ℕ, _-_, _<_}
 use native.Mathlib.Omega.{arith}
 use Rattle.walk.proofs.CellLaws.{small}
-use Rattle.shading.specs.Shades.{rowOf}
-use Rattle.shading.proofs.ShadeLaws.{pixel-in, pixel-most}
-use Rattle.shading.proofs.TopLaws.{tops-pixel, TopColumns, tops-columns, columns-top, columns-all}
+use Rattle.sloped_pixels.specs.Shades.{rowOf}
+use Rattle.sloped_pixels.proofs.ShadeLaws.{pixel-in, pixel-most}
+use Rattle.sloped_pixels.proofs.SeenLaws.{spans-pixel, SeenColumns, seen-columns, columns-next, columns-all}
 use borrow.Author.Needs.{needs}
-use Rattle.shading.proofs.block.top_row.Statement.{statement}
-use Rattle.shading.proofs.block.top_row.Tie as tie
+use Rattle.sloped_pixels.proofs.block.seen_row.Statement.{statement}
+use Rattle.sloped_pixels.proofs.block.seen_row.Tie as tie
 
 abbrev Inv-loop : tie.InvT-loop
-Inv-loop picture grid block y bound known top₀ x₀ top x = TopColumns grid picture (rowOf block y) bound top₀ top x
+Inv-loop picture grid block y all seen₀ x₀ seen x = SeenColumns grid picture (rowOf block y) all seen₀ seen x
 
 abbrev μ-loop : tie.MeasureT-loop
-μ-loop picture grid block y bound known top₀ x₀ top x = block .xend - x
+μ-loop picture grid block y all seen₀ x₀ seen x = block .xend - x
 
 -- The places: the start, the loop, a turn of it, after the call, and past the loop.
 abbrev begun : tie.After-shared-slice-known Inv-loop μ-loop → tie.Start Inv-loop μ-loop
@@ -45,7 +45,7 @@ here c =
     record { x-in = omega (arith, c .if1 .taken, p .0 .x-in); y-in = omega (arith, p .1 .1, p .0 .y-in) }
 
 loop-holds : tie.Need-loop-holds Inv-loop μ-loop
-loop-holds c = let p = begun c .pre .1 in tops-columns _ (p .1 .2) (omega (arith, p .0 .x-some))
+loop-holds c = let p = begun c .pre .1 in seen-columns _ (omega (arith, p .0 .x-some))
 
 mul-at : tie.Need-mul-at Inv-loop μ-loop
 mul-at c =
@@ -89,14 +89,13 @@ loop-again : tie.Need-loop-again Inv-loop μ-loop
 loop-again c =
     let t = in-turn (c .before .before) in
     let l = at-test t in
-    columns-top (l .loop .inv) (t .if1 .taken)
-    (tops-pixel _ _ (l .loop .inv .tops .most) (c .join .ensures))
+    columns-next (l .loop .inv) (t .if1 .taken) (spans-pixel _ _ (c .join .ensures))
 
 returns : tie.Need-returns Inv-loop μ-loop
 returns c = columns-all (past c .loop .inv) (omega (arith, c .if1 .left))
 
-pub top-row-spec : {M : Type 1} → statement M
-top-row-spec =
+pub seen-row-spec : {M : Type 1} → statement M
+seen-row-spec =
     tie.close
     (tie.spec
     Inv-loop

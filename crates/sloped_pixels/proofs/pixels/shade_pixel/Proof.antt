@@ -14,12 +14,12 @@ use Rattle.picture.proofs.GridWords.{InWords, in-words, value-fits}
 use Rattle.slopes.specs.Shapes.{Sloping}
 use Rattle.walk.proofs.CellLaws.{small}
 use Rattle.walk.proofs.LookLaws.{sound-runs}
-use Rattle.shading.specs.Shades.{Seen}
-use Rattle.shading.proofs.ShadeLaws.{put-words, pixel-in, three-in, pixel-most, at-words, sample-same}
-use Rattle.shading.proofs.ShadeLaws.{sample-ok, pixel-low, pixel-high, sample-shaded}
+use Rattle.sloped_pixels.specs.Shades.{Seen}
+use Rattle.sloped_pixels.proofs.ShadeLaws.{put-words, pixel-in, three-in, pixel-most, at-words, sample-same}
+use Rattle.sloped_pixels.proofs.ShadeLaws.{sample-ok, pixel-low, pixel-high, sample-shaded}
 use borrow.Author.Needs.{needs}
-use Rattle.shading.proofs.pixels.shade_pixel.Statement.{statement}
-use Rattle.shading.proofs.pixels.shade_pixel.Tie as tie
+use Rattle.sloped_pixels.proofs.pixels.shade_pixel.Statement.{statement}
+use Rattle.sloped_pixels.proofs.pixels.shade_pixel.Tie as tie
 
 -- The places: the start, from the first lines; where the height is known; and the three calls for the sample's axes.
 abbrev begun : tie.After-struct-known → tie.Start

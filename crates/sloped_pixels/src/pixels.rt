@@ -12,7 +12,7 @@ ghost use Prim.Native.Nat.{_+_, _*_, _<_, _≤_};
 ghost use lib.ListN.{length, replicate};
 ghost use Rattle.slopes.specs.Shapes.{slotsOf, Sized};
 ghost use Rattle.walk.specs.Walks.{Sound};
-ghost use Rattle.shading.specs.Shades.{putAt, Fits, BlockIn, pixelAt, rowOf, Shading};
+ghost use Rattle.sloped_pixels.specs.Shades.{putAt, Fits, BlockIn, pixelAt, rowOf, Shading};
 
 // The slopes of a picture without material.
 pub fn clear(slopes: &mut [i32])
@@ -25,7 +25,7 @@ pub fn clear(slopes: &mut [i32])
     }
 }
 
-// Three numbers at the place of the pixel `at`.
+// Three numbers at the place of the pixel `at`, one of at most 512 by 512.
 fn put(slopes: &mut [i32], at: usize, x: i32, y: i32, z: i32)
     requires { ⌜ (3 * at + 2 < length (now slopes)) × (at < 262144) ⌝ }
     ensures { λ _. ⌜ now (slopes .exit) ≡ putAt (now (slopes .entry)) at x y z ⌝ }
@@ -35,7 +35,7 @@ fn put(slopes: &mut [i32], at: usize, x: i32, y: i32, z: i32)
     slopes[3 * at + 2] = z;
 }
 
-// Left alone if its height is not in the window.
+// A pixel whose height is not in the window is passed over.
 fn shade_pixel(
     code: &[u64],
     grid: Grid,

@@ -4,31 +4,28 @@ use mathlib.Core.Bool.{true}
 use mathlib.Core.List.{List}
 use Prim.Native.Nat.{ℕ, suc, _+_, _*_, _≤_, _<_}
 use lib.IntN.{ℤ}
-use lib.ListN.{length, getD, set, drop}
+use lib.ListN.{length, getD, set}
 use Rattle.rules.specs.Tapes.{Tape}
-use Rattle.rules.specs.Values.{Box}
 use Rattle.rules.specs.Drawings.{sampleAt, gridFault}
 use Rattle.rules.specs.Accepted.{Accepted}
-use Rattle.rules.specs.Slopes.{slopesAt, threeAt, pixelSlopes, slopesOf}
+use Rattle.rules.specs.Slopes.{slopesAt, threeAt, pixelSlopes}
 use Rattle.code.specs.Words.{tapeIn}
-use Rattle.code.specs.Runs.{BoxOk}
-use Rattle.shortening.specs.Kept.{Kept}
 use Rattle.picture.specs.Shapes.{gridIn}
 use Rattle.picture.specs.declared.grid.Grid.{Grid}
-use Rattle.walk.specs.Cells.{spanOf}
-use Rattle.shading.specs.declared.block.Block.{Block}
-use Rattle.shading.specs.declared.block.Layers.{Layers}
+use Rattle.sloped_pixels.specs.declared.block.Block.{Block}
+use Rattle.sloped_pixels.specs.declared.block.Layers.{Layers}
 
 -- Three numbers at the place of the pixel p.
 abbrev pub putAt : List ℤ → ℕ → ℤ → ℤ → ℤ → List ℤ
 putAt b p x y z = set (set (set b (3 * p) x) (3 * p + 1) y) (3 * p + 2) z
 
--- A grid that no line refuses, and heights of a solid on it; besides, a list with three numbers a pixel.
+-- A grid that no line refuses, and heights of a solid on it.
 pub record Heights (grid : Grid) (h : List ℕ) : Type 0 where
   pub fault : gridFault true (gridIn grid true) ≡ 0
   pub size : length h ≡ grid .width * grid .height
   pub most : (p : ℕ) → getD h p 0 ≤ grid .depth
 
+-- The same, with a list that has three numbers a pixel.
 pub record Fits (grid : Grid) (h : List ℕ) (b : List ℤ) : Type 0 where
   pub heights : Heights grid h
   pub slopes : length b ≡ 3 * (grid .width * grid .height)
@@ -84,50 +81,30 @@ pub record Alike (t : Tape) (ws : List ℕ) (grid : Grid) (h : List ℕ) (l : La
   pub same : (i j k : ℕ) → Within c i j → Seen grid h l i j → getD h (j * grid .width + i) 0 ≡ suc k
       → slopesAt (tapeIn slots ws) (sampleAt (gridIn grid true) i j k) ≡ slopesAt t (sampleAt (gridIn grid true) i j k)
 
--- The part d of the block c is shaded in the window with the words, for whatever tape they stand in the block.
+-- The part d of the block c is shaded in the window with the words, for whatever tape they stand for in the block.
 pub record Shading (ws : List ℕ) (grid : Grid) (h : List ℕ) (l : Layers) (c d : Block) (b b′ : List ℤ) : Type 0 where
   pub shades : (t : Tape) → Alike t ws grid h l c → Shades t grid h l d b b′
 
--- All of the list, by the slopes of the words' tape.
-pub record Shaded (ws : List ℕ) (grid : Grid) (h : List ℕ) (b′ : List ℤ) : Type 0 where
-  pub slopes : (n : ℕ) → Accepted (tapeIn n ws) → b′ ≡ slopesOf (tapeIn n ws) (gridIn grid true) h
+-- The window r has the window before, and lies in the window all if that does.
+pub record Wider (all before r : Layers) : Type 0 where
+  pub low : r .from ≤ before .from
+  pub high : before .end ≤ r .end
+  pub from : all .from ≤ before .from → all .from ≤ r .from
+  pub end : before .end ≤ all .end → r .end ≤ all .end
 
--- r is a bound of the block's heights that are not above the bound m, and not above m itself; nor below what it was.
-pub record Tops (grid : Grid) (h : List ℕ) (c : Block) (m before r : ℕ) : Type 0 where
-  pub low : before ≤ r
-  pub most : r ≤ m
-  pub all : (i j : ℕ) → Within c i j → getD h (j * grid .width + i) 0 ≤ m → getD h (j * grid .width + i) 0 ≤ r
+-- Besides, it has the height v, if that lies in all; and those heights of the block c that do.
+pub record Joined (v : ℕ) (all before r : Layers) : Type 0 where
+  pub wider : Wider all before r
+  pub has : all .from < v → v ≤ all .end → (r .from < v) × (v ≤ r .end)
 
--- The same of one height v.
-pub record Joined (v m before r : ℕ) : Type 0 where
-  pub low : before ≤ r
-  pub most : before ≤ m → r ≤ m
-  pub all : v ≤ m → v ≤ r
+pub record Spans (grid : Grid) (h : List ℕ) (c : Block) (all before r : Layers) : Type 0 where
+  pub wider : Wider all before r
+  pub has : (i j : ℕ) → Within c i j → Seen grid h all i j → Seen grid h r i j
 
--- Layers of the grid, and the box of a block's samples in them.
-pub record LayersIn (grid : Grid) (l : Layers) : Type 0 where
-  pub some : l .from < l .end
-  pub in-grid : l .end ≤ grid .depth
-
-abbrev pub boxAt : Grid → Block → Layers → Box
-boxAt grid c l =
-    record {
-      xs = spanOf (grid .xorigin) (grid .xstep) (c .x) (c .xend);
-      ys = spanOf (grid .yorigin) (grid .ystep) (c .y) (c .yend);
-      zs = spanOf (grid .zorigin) (grid .zstep) (l .from) (l .end);
-    }
-
-pub record BlockBox (grid : Grid) (c : Block) (l : Layers) (b : Box) : Type 0 where
-  pub same : b ≡ boxAt grid c l
-  pub ok : BoxOk b
-
--- From start on stand words with the slopes of the words ws at every sample of the block c in the layers l; kept of the
--- whole tape, as those are, and accepted as they are.
-pub record Narrowed (whole ws : List ℕ) (grid : Grid) (c : Block) (l : Layers) (next places : List ℕ) (start : ℕ)
-    : Type 0 where
-  pub within : start ≤ length next
-  pub accepted : (n : ℕ) → Accepted (tapeIn n ws) → Accepted (tapeIn n (drop start next))
-  pub same : (n : ℕ) → Accepted (tapeIn n ws) → (i j k : ℕ) → Within c i j → l .from ≤ k → k < l .end
-      → slopesAt (tapeIn n (drop start next)) (sampleAt (gridIn grid true) i j k)
-      ≡ slopesAt (tapeIn n ws) (sampleAt (gridIn grid true) i j k)
-  pub kept : Kept whole (drop start next) (drop start places)
+-- A window in all that has every height of the block c that all has. That it is the least is not promised: a wider one
+-- would be as right, and only take longer.
+pub record Tight (grid : Grid) (h : List ℕ) (c : Block) (all r : Layers) : Type 0 where
+  pub from : all .from ≤ r .from
+  pub most : r .from ≤ all .end
+  pub end : r .end ≤ all .end
+  pub has : (i j : ℕ) → Within c i j → Seen grid h all i j → Seen grid h r i j

@@ -4,10 +4,10 @@ use Prim.Native.Nat.{_+_, _-_}
 use native.Mathlib.Omega.{arith}
 use Rattle.slopes.specs.Shapes.{slotsOf, Sized}
 use Rattle.walk.proofs.CellLaws.{small}
-use Rattle.shading.specs.Shades.{rowOf}
-use Rattle.shading.proofs.ShadeLaws.{fits-again, row-in, AtColumn, columns-begin, columns-next, columns-done}
-use Rattle.shading.proofs.pixels.shade_row.Statement.{statement}
-use Rattle.shading.proofs.pixels.shade_row.Tie as tie
+use Rattle.sloped_pixels.specs.Shades.{rowOf}
+use Rattle.sloped_pixels.proofs.ShadeLaws.{fits-again, row-in, AtColumn, columns-begin, columns-next, columns-done}
+use Rattle.sloped_pixels.proofs.pixels.shade_row.Statement.{statement}
+use Rattle.sloped_pixels.proofs.pixels.shade_row.Tie as tie
 
 abbrev Inv-loop : tie.InvT-loop
 Inv-loop code grid picture slopes₀ block y window values₀ xs₀ ys₀ zs₀ x₀ slopes values xs ys zs x =

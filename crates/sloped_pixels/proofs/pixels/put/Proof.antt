@@ -1,10 +1,10 @@
 -- Three stores, one behind the other.
 use native.Mathlib.Omega.{arith}
 use lib.ListN.{length-set}
-use Rattle.shading.proofs.ShadeLaws.{put-words}
+use Rattle.sloped_pixels.proofs.ShadeLaws.{put-words}
 use borrow.Author.Needs.{needs}
-use Rattle.shading.proofs.pixels.put.Statement.{statement}
-use Rattle.shading.proofs.pixels.put.Tie as tie
+use Rattle.sloped_pixels.proofs.pixels.put.Statement.{statement}
+use Rattle.sloped_pixels.proofs.pixels.put.Tie as tie
 
 mul-x : tie.Need-mul-x
 mul-x c = search needs

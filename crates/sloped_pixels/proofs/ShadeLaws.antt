@@ -28,10 +28,10 @@ use Rattle.slopes.specs.declared.sloped.Sloped.{Sloped}
 use Rattle.picture.proofs.Grids.{accepted}
 use Rattle.picture.proofs.GridWords.{at-read}
 use Rattle.walk.proofs.CellLaws.{small, kind}
-use Rattle.shading.specs.declared.block.Block.{Block}
-use Rattle.shading.specs.declared.block.Layers.{Layers}
-use Rattle.shading.specs.Shades.{putAt, Heights, Fits, pixelAt, blockAt, Within, Right, Seen, Shades, Alike}
-use Rattle.shading.specs.Shades.{rowOf, BlockIn, Shading}
+use Rattle.sloped_pixels.specs.declared.block.Block.{Block}
+use Rattle.sloped_pixels.specs.declared.block.Layers.{Layers}
+use Rattle.sloped_pixels.specs.Shades.{putAt, Heights, Fits, pixelAt, blockAt, Within, Right, Seen, Shades, Alike}
+use Rattle.sloped_pixels.specs.Shades.{rowOf, BlockIn, Shading}
 
 -- Three numbers, handed over as words and stored.
 pub put-words : (b : List ℤ) (p : ℕ) {x y z : ℤ} → SFits w32 x → SFits w32 y → SFits w32 z

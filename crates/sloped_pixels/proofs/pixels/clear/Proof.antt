@@ -3,9 +3,9 @@ use mathlib.Core.Path.{refl}
 use Prim.Native.Nat.{_-_}
 use native.Mathlib.Omega.{arith}
 use lib.ListN.{length, length-set}
-use Rattle.shading.proofs.ClearLaws.{Cleared, clear-next, clear-ends}
-use Rattle.shading.proofs.pixels.clear.Statement.{statement}
-use Rattle.shading.proofs.pixels.clear.Tie as tie
+use Rattle.sloped_pixels.proofs.ClearLaws.{Cleared, clear-next, clear-ends}
+use Rattle.sloped_pixels.proofs.pixels.clear.Statement.{statement}
+use Rattle.sloped_pixels.proofs.pixels.clear.Tie as tie
 
 abbrev Inv-loop : tie.InvT-loop
 Inv-loop slopes₀ i₀ slopes i = Cleared slopes₀ i slopes

@@ -4,9 +4,9 @@ use Prim.Native.Nat.{_+_, _-_}
 use native.Mathlib.Omega.{arith}
 use Rattle.slopes.specs.Shapes.{slotsOf, Sized}
 use Rattle.walk.proofs.CellLaws.{small}
-use Rattle.shading.proofs.ShadeLaws.{fits-again, AtRow, rows-begin, rows-next, rows-done}
-use Rattle.shading.proofs.pixels.shade_rows.Statement.{statement}
-use Rattle.shading.proofs.pixels.shade_rows.Tie as tie
+use Rattle.sloped_pixels.proofs.ShadeLaws.{fits-again, AtRow, rows-begin, rows-next, rows-done}
+use Rattle.sloped_pixels.proofs.pixels.shade_rows.Statement.{statement}
+use Rattle.sloped_pixels.proofs.pixels.shade_rows.Tie as tie
 
 abbrev Inv-loop : tie.InvT-loop
 Inv-loop code grid picture slopes₀ block window values₀ xs₀ ys₀ zs₀ y₀ slopes values xs ys zs y =

@@ -1,0 +1,2 @@
+-- What shading some pixels promises (Shades).
+pub mod Shades
