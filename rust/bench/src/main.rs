@@ -1,5 +1,6 @@
 //! `bench` prints a table of times: the core's tiles beside the plain walk and the full drawing.
-//! `bench tiles|plain|full flat|solid NAME` draws one part once, for a profiler.
+//! `bench tiles|plain|full flat|solid NAME` draws one part once, for a profiler, and `bench tiles|plain sloped NAME` a
+//! solid with its slopes.
 //! `bench slopes` prints a table of times of solids with slopes beside those without.
 //! `bench lengths` prints a table of the lengths of short tapes.
 
@@ -16,7 +17,7 @@ fn main() {
         ["slopes"] => slopes(),
         ["lengths"] => lengths(),
         [way, kind, name] => once(way, kind, name),
-        _ => panic!("usage: bench [slopes | lengths | tiles|plain|full flat|solid NAME]"),
+        _ => panic!("usage: bench [slopes | lengths | tiles|plain|full flat|solid NAME | tiles|plain sloped NAME]"),
     }
 }
 
@@ -28,12 +29,13 @@ fn once(way: &str, kind: &str, name: &str) {
         other => panic!("no way to draw is named {other}"),
     };
     let part = parts::all().into_iter().find(|part| part.name == name).expect("a part's name");
-    let mut canvas = match kind {
-        "flat" => Canvas::new(Kind::Flat, part.flat),
-        "solid" => Canvas::new(Kind::Solid, part.solid),
+    let count = match kind {
+        "flat" => Canvas::new(Kind::Flat, part.flat).draw(way, &part.tape),
+        "solid" => Canvas::new(Kind::Solid, part.solid).draw(way, &part.tape),
+        "sloped" => Canvas::new(Kind::Solid, part.solid).draw_slopes(way, &part.tape),
         other => panic!("no kind is named {other}"),
     };
-    println!("{}", canvas.draw(way, &part.tape));
+    println!("{count}");
 }
 
 fn runs() -> usize {

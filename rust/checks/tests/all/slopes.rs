@@ -114,6 +114,26 @@ fn the_largest_grids() {
     }
 }
 
+/// Heights that lie far apart within four pixels, and that leave layers between them without a visible sample.
+#[test]
+fn steep_blocks() {
+    for (text, gaps) in [
+        ("z - 25*x - 9*y", false),
+        ("min(max(z - 24*x, z - 300), max(z - 500 + 24*y, 30 - z))", false),
+        ("min(z - 3, max(z - 400 - x, abs(x - 10) + abs(y - 9) - 1.5))", true),
+        ("min(min(z - 2, max(z - 33 - y, 7 - x)), max(z - 330 + root(sqr(x) + sqr(y)), x - 9.8))", true),
+    ] {
+        let tape = layers::Tape::from_text(text).expect("a formula");
+        let grid = Grid { sizes: [21, 18, 512], origins: [0; 3], steps: [65_536; 3] };
+        let (said, (picture, ..)) = drawn(tape.as_bytes().to_vec(), grid);
+        assert_eq!(said.number, 0);
+        let mut block: Vec<u16> = (8..12).flat_map(|y| &picture[y * 21 + 8..][..4]).copied().collect();
+        block.sort_unstable();
+        assert!(block[15] - block[0] > 32, "{text}: {block:?}");
+        assert!(!gaps || block.windows(2).any(|pair| pair[1] - pair[0] > 32), "{text}: {block:?}");
+    }
+}
+
 /// Samples at both ends of the range of values, and slopes clamped there. Every sample has material.
 #[test]
 fn the_ends_of_the_range() {
