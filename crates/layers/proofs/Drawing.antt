@@ -1,30 +1,23 @@
--- The drawing calls: what a 0 of the checks says, the words of an unpacked tape, and the two ends of a full drawing.
-use mathlib.Core.Path.{_≡_, refl, ap, _∙_}
+-- The drawing calls: what a 0 of the checks says, and the two ends of a full drawing.
+use mathlib.Core.Path.{_≡_, refl, _∙_}
 use mathlib.Core.Bool.{Bool, true, false, not}
 use mathlib.Core.List.{List, [], _∷_}
 use Prim.Native.Nat.{ℕ, suc, _≤_}
 use native.Mathlib.Omega.{arith}
 use lib.Dec.{eqb}
-use lib.ListN.{length, take}
-use lib.Seq.{length-take-le}
+use lib.ListN.{length}
 use borrow.Author.Tests.{eqb-true, ne-eqb, eq-eqb}
 use Rattle.rules.specs.Values.{firstFault, when}
 use Rattle.rules.specs.Tapes.{readTape, clauseLimit, firstClauses}
 use Rattle.rules.specs.Drawings as D
-use Rattle.rules.specs.Pictures.{picture, pictureSize}
+use Rattle.rules.specs.Pictures.{pictureSize}
 use Rattle.rules.proofs.Lines.{each-line}
-use Rattle.rules.specs.Accepted.{Accepted}
 use Rattle.rules.proofs.Accepted.{accepted-tape}
-use Rattle.code.specs.Words.{tapeIn}
-use Rattle.code.specs.Unpacking.{Unpackable, Unpacked}
-use Rattle.code.proofs.WordTapes.{words-runnable, unpacked-tape, unpacked-accepted}
 use Rattle.picture.specs.Shapes.{gridIn}
 use Rattle.picture.specs.declared.grid.Grid.{Grid}
-use Rattle.full_drawing.specs.Full.{Drawable, FullDrawn}
-use Rattle.walk.specs.Walks.{Sound, Walked}
+use Rattle.editions.specs.Sizes.{Draws, FullOf}
 use Rattle.layers.specs.declared.Answer.{Answer}
 use Rattle.layers.specs.Says.{lengthFault, drawLines, drawFault, FullSays}
-use Rattle.layers.specs.Sizes.{Draws, FullOf, TilesOf}
 use Rattle.layers.proofs.Answers.{answer, refused-by, done-by}
 
 pub when-zero : (t : Bool) (n : ℕ) → when (not t) (suc n) ≡ 0 → t ≡ true
@@ -51,67 +44,13 @@ clear t s g n e =
       size = eqb-true n (pictureSize t g) (when-zero (eqb n (pictureSize t g)) 11 (z 2));
     }
 
--- An accepted tape has room in the long array, and one of edition 01 in the short one.
-few-clauses : (s : List ℕ) → readTape s .number ≡ 0 → length (readTape s .tape .clauses) ≤ clauseLimit
-few-clauses s e = accepted-tape s e .clauses
-
+-- An accepted tape has room in the long arrays, and one of edition 01 in the short ones.
 pub draws : {t : Bool} {s : List ℕ} {g : D.Grid} {n : ℕ} → Clear t s g n → Draws t s g n clauseLimit
-draws {s = s} k = record { read = k .read; room = few-clauses s (k .read); grid = k .grid; size = k .size }
+draws {s = s} k = record { read = k .read; room = accepted-tape s (k .read) .clauses; grid = k .grid; size = k .size }
 
 pub draws-few : {t : Bool} {s : List ℕ} {g : D.Grid} {n m k : ℕ} → Draws t s g n m
     → k ≡ length (readTape s .tape .clauses) → k ≤ firstClauses → Draws t s g n firstClauses
 draws-few d e h = record { read = d .read; room = omega arith; grid = d .grid; size = d .size }
-
-pub unpackable : {t : Bool} {s ws : List ℕ} {g : D.Grid} {n m : ℕ} → Draws t s g n m → length ws ≡ m → Unpackable s ws
-unpackable d e = record { accepted = d .read; room = omega arith }
-
--- The words of a tape that is accepted and unpacked: how many, and that they run.
-module _ {t : Bool} {s : List ℕ} {g : D.Grid} {n m : ℕ} (d : Draws t s g n m) {ws ws′ : List ℕ} {k : ℕ}
-    (o : Unpacked s ws ws′ k) (l : length ws′ ≡ m) where
-  pub words-room : k ≤ length ws′
-  words-room = omega (arith, o .count, d .room)
-
-  pub words-few : length (take k ws′) ≤ clauseLimit
-  words-few = omega (arith, length-take-le k ws′ words-room, o .count, few-clauses s (d .read))
-
-  pub words-within : length (take k ws′) ≤ m
-  words-within = omega (arith, length-take-le k ws′ words-room, words-room, l)
-
-  pub words-accepted : Accepted (tapeIn (readTape s .tape .slots) (take k ws′))
-  words-accepted = unpacked-accepted s ws ws′ k o (d .read)
-
-  pub words-tape : tapeIn (readTape s .tape .slots) (take k ws′) ≡ readTape s .tape
-  words-tape = unpacked-tape s ws ws′ k o
-
-  pub drawable : Drawable t (take k ws′) g
-  drawable =
-      record {
-        runnable = words-runnable (readTape s .tape .slots) (take k ws′) words-accepted;
-        accepted = d .grid;
-      }
-
-  pub sound : Sound (take k ws′)
-  sound = record { slots = readTape s .tape .slots; accepted = words-accepted }
-
-  -- What these words draw, the tape draws.
-  pub full-of : {o′ : List ℕ} {c : ℕ} → FullDrawn t (take k ws′) g o′ c → FullOf t s g o′ c
-  full-of v =
-      let n = readTape s .tape .slots in
-      record {
-        pixels = v .pixels n words-accepted ∙ ap (λ a. picture t g (D.drawn a g)) words-tape;
-        count = v .clauses n words-accepted ∙ ap (λ a. D.fullCount a g) words-tape;
-      }
-
-pub tiles-of : {t : Bool} {s : List ℕ} {r : Grid} {n m : ℕ} → Draws t s (gridIn r t) n m → {ws ws′ : List ℕ} {k : ℕ}
-    → Unpacked s ws ws′ k → length ws′ ≡ m → {o′ : List ℕ} {c : ℕ} → Walked t (take k ws′) r o′ c
-    → TilesOf t s (gridIn r t) o′ c
-tiles-of {t} {s} {r} d o l v =
-    let g = gridIn r t in
-    let n = readTape s .tape .slots in
-    record {
-      pixels = v .pixels n (words-accepted d o l) ∙ ap (λ b. picture t g (D.walked b g .heights)) (words-tape d o l);
-      count = v .count n (words-accepted d o l) ∙ ap (λ b. D.walked b g .clauses) (words-tape d o l);
-    }
 
 -- A refused drawing: its answer, and every byte as it was.
 pub full-refused : (t : Bool) (s : List ℕ) (d : Grid) (o : List ℕ) {f p : ℕ} {r : Answer} → r ≡ answer f p 0

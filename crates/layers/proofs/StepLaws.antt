@@ -12,7 +12,7 @@ use lib.Seq.{drop-cons, drop-length}
 use borrow.Author.Tests.{eqb-true, eqb-false, eq-eqb, ne-eqb, lt-ltb, le-ltb}
 use Rattle.rules.specs.Values.{firstOf, firstFault, when}
 use Rattle.rules.specs.Drawings as D
-use Rattle.rules.specs.Pictures.{stride, pictureSize}
+use Rattle.rules.specs.Pictures.{pictureSize}
 use Rattle.rules.proofs.Lines.{first-here}
 use Rattle.layers.specs.Says.{lengthFault, slopeFault, workFault}
 
@@ -67,11 +67,3 @@ work-enough m h = rw (le-ltb m D.workLimit h)
 -- The length of a picture: no sizes of 32 bits go past 64 bits.
 pub area : (a b : ℕ) → a ≤ 4294967295 → b ≤ 4294967295 → a * b ≤ 18446744065119617025
 area a b h k = mul-le-mul h k
-
-pub solid-size : (t : Bool) (g : D.Grid) → t ≡ true → g .width * g .height ≡ pictureSize t g
-unfolding pictureSize
-solid-size t g e = rw e
-
-pub flat-size : (t : Bool) (g : D.Grid) → t ≡ false → g .height * stride (g .width) ≡ pictureSize t g
-unfolding pictureSize
-flat-size t g e = rw e

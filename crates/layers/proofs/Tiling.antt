@@ -14,9 +14,9 @@ use Rattle.rules.proofs.Tests.{last-off}
 use Rattle.rules.proofs.Lines.{each-line}
 use Rattle.picture.specs.Shapes.{gridIn}
 use Rattle.picture.specs.declared.grid.Grid.{Grid}
+use Rattle.editions.specs.Sizes.{TilesOf}
 use Rattle.layers.specs.declared.Answer.{Answer}
 use Rattle.layers.specs.Says.{lengthFault, workFault, tileLines, tileFault, TilesSay}
-use Rattle.layers.specs.Sizes.{TilesOf}
 use Rattle.layers.proofs.Answers.{answer, refused-by, done-by}
 use Rattle.layers.proofs.Drawing.{Clear, clear}
 

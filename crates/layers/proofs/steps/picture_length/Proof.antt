@@ -1,7 +1,8 @@
 -- The picture's length, on any sizes of 32 bits.
 use Prim.Native.Nat.{_+_, _/_, _≤_}
 use native.Mathlib.Omega.{arith}
-use Rattle.layers.proofs.StepLaws.{area, solid-size, flat-size}
+use Rattle.editions.proofs.TapeWords.{solid-size, flat-size}
+use Rattle.layers.proofs.StepLaws.{area}
 use borrow.Author.Needs.{needs}
 use Rattle.layers.proofs.steps.picture_length.Statement.{statement}
 use Rattle.layers.proofs.steps.picture_length.Tie as tie

@@ -6,12 +6,12 @@ use native.Mathlib.Omega.{arith}
 use lib.ListN.{length}
 use lib.Seq.{length-take-le}
 use Rattle.picture.specs.Shapes.{gridIn}
-use Rattle.layers.specs.Sizes.{TilesOf}
-use Rattle.layers.proofs.StepLaws.{solid-size}
-use Rattle.layers.proofs.Drawing.{words-room, words-few, words-within, sound, tiles-of}
-use Rattle.layers.proofs.Sloping.{walked-heights, slopes-of}
-use Rattle.layers.proofs.sloped.slope_words.Statement.{statement}
-use Rattle.layers.proofs.sloped.slope_words.Tie as tie
+use Rattle.editions.specs.Sizes.{TilesOf}
+use Rattle.editions.proofs.TapeWords.{solid-size}
+use Rattle.editions.proofs.TapeWords.{words-room, words-few, words-within, sound, tiles-of}
+use Rattle.editions.proofs.TapeSlopes.{walked-heights, slopes-of}
+use Rattle.editions.proofs.sloped.slope_words.Statement.{statement}
+use Rattle.editions.proofs.sloped.slope_words.Tie as tie
 
 -- The places: the start, once the words are there, before and after the walk, and before and after the slopes.
 abbrev begun : tie.After-unpack-words-arg → tie.Start

@@ -4,11 +4,11 @@ use mathlib.Core.Path.{_≡_, refl, sym, _∙_}
 use mathlib.Core.Bool.{false}
 use lib.ListN.{length}
 use lib.Seq.{length-take-le}
-use Rattle.rules.specs.Tapes.{firstClauses}
-use Rattle.layers.proofs.StepLaws.{flat-size}
-use Rattle.layers.proofs.Drawing.{words-room, words-few, drawable, full-of}
-use Rattle.layers.proofs.flat.draw_few.Statement.{statement}
-use Rattle.layers.proofs.flat.draw_few.Tie as tie
+use Rattle.rules.specs.Tapes.{clauseLimit}
+use Rattle.editions.proofs.TapeWords.{flat-size}
+use Rattle.editions.proofs.TapeWords.{words-room, words-few, drawable, full-of}
+use Rattle.editions.proofs.flat.draw_many.Statement.{statement}
+use Rattle.editions.proofs.flat.draw_many.Tie as tie
 
 abbrev at-start : tie.After-unpack-words → tie.Start
 at-start c = c .before .before .before .before
@@ -16,7 +16,7 @@ at-start c = c .before .before .before .before
 abbrev at-unpacked : tie.After-draw-flat-arg → tie.After-unpack-words
 at-unpacked c = c .before .before .before
 
-long : (c : tie.After-unpack-words) → length (c .unpack-words .last .1 .0) ≡ firstClauses
+long : (c : tie.After-unpack-words) → length (c .unpack-words .last .1 .0) ≡ clauseLimit
 long c = search needs
 
 slice-aggregate-unpack-words : tie.Need-slice-aggregate-unpack-words
@@ -49,8 +49,8 @@ returns c =
     let u = at-unpacked (v .before) in
     full-of (at-start u .pre) (u .unpack-words .ensures) (long u) (v .draw-flat .ensures)
 
-pub draw-few-spec : {M : Type 1} → statement M
-draw-few-spec =
+pub draw-many-spec : {M : Type 1} → statement M
+draw-many-spec =
     tie.close
     (tie.spec
     slice-aggregate-unpack-words

@@ -5,10 +5,10 @@ use mathlib.Core.Bool.{true}
 use native.Mathlib.Omega.{arith}
 use lib.ListN.{length}
 use lib.Seq.{length-take-le}
-use Rattle.layers.proofs.StepLaws.{solid-size}
-use Rattle.layers.proofs.Drawing.{words-room, words-few, words-within, sound, tiles-of}
-use Rattle.layers.proofs.solid.tile_words.Statement.{statement}
-use Rattle.layers.proofs.solid.tile_words.Tie as tie
+use Rattle.editions.proofs.TapeWords.{solid-size}
+use Rattle.editions.proofs.TapeWords.{words-room, words-few, words-within, sound, tiles-of}
+use Rattle.editions.proofs.solid.tile_words.Statement.{statement}
+use Rattle.editions.proofs.solid.tile_words.Tie as tie
 
 -- The places: the start, once the words are there, and that, before and after the walk.
 abbrev begun : tie.After-unpack-words-arg → tie.Start

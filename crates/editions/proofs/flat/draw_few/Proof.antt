@@ -1,22 +1,22 @@
 -- The full drawing of the unpacked words is the tape's.
 use borrow.Author.Needs.{needs}
 use mathlib.Core.Path.{_≡_, refl, sym, _∙_}
-use mathlib.Core.Bool.{true}
+use mathlib.Core.Bool.{false}
 use lib.ListN.{length}
 use lib.Seq.{length-take-le}
-use Rattle.rules.specs.Tapes.{clauseLimit}
-use Rattle.layers.proofs.StepLaws.{solid-size}
-use Rattle.layers.proofs.Drawing.{words-room, words-few, drawable, full-of}
-use Rattle.layers.proofs.solid.draw_many.Statement.{statement}
-use Rattle.layers.proofs.solid.draw_many.Tie as tie
+use Rattle.rules.specs.Tapes.{firstClauses}
+use Rattle.editions.proofs.TapeWords.{flat-size}
+use Rattle.editions.proofs.TapeWords.{words-room, words-few, drawable, full-of}
+use Rattle.editions.proofs.flat.draw_few.Statement.{statement}
+use Rattle.editions.proofs.flat.draw_few.Tie as tie
 
 abbrev at-start : tie.After-unpack-words → tie.Start
 at-start c = c .before .before .before .before
 
-abbrev at-unpacked : tie.After-draw-solid-arg → tie.After-unpack-words
+abbrev at-unpacked : tie.After-draw-flat-arg → tie.After-unpack-words
 at-unpacked c = c .before .before .before
 
-long : (c : tie.After-unpack-words) → length (c .unpack-words .last .1 .0) ≡ clauseLimit
+long : (c : tie.After-unpack-words) → length (c .unpack-words .last .1 .0) ≡ firstClauses
 long c = search needs
 
 slice-aggregate-unpack-words : tie.Need-slice-aggregate-unpack-words
@@ -28,17 +28,17 @@ unpack-words-requires c κs = search needs
 array-share-prefix-words : tie.Need-array-share-prefix-words
 array-share-prefix-words c = search needs
 
-slice-aggregate-draw-solid : tie.Need-slice-aggregate-draw-solid
-slice-aggregate-draw-solid c =
+slice-aggregate-draw-flat : tie.Need-slice-aggregate-draw-flat
+slice-aggregate-draw-flat c =
     let u = c .before .before in
     sym (length-take-le _ _ (words-room (at-start u .pre) (u .unpack-words .ensures) (long u)))
 
-draw-solid-requires : tie.Need-draw-solid-requires
-draw-solid-requires c κs =
+draw-flat-requires : tie.Need-draw-flat-requires
+draw-flat-requires c κs =
     let u = at-unpacked c in
     let d = at-start u .pre in
     let o = u .unpack-words .ensures in
-    (drawable d o (long u), (words-few d o (long u), d .size ∙ sym (solid-size true _ refl)))
+    (drawable d o (long u), (words-few d o (long u), d .size ∙ sym (flat-size false _ refl)))
 
 same-length : tie.Need-same-length
 same-length c = search needs
@@ -47,16 +47,16 @@ returns : tie.Need-returns
 returns c =
     let v = c .before .before in
     let u = at-unpacked (v .before) in
-    full-of (at-start u .pre) (u .unpack-words .ensures) (long u) (v .draw-solid .ensures)
+    full-of (at-start u .pre) (u .unpack-words .ensures) (long u) (v .draw-flat .ensures)
 
-pub draw-many-spec : {M : Type 1} → statement M
-draw-many-spec =
+pub draw-few-spec : {M : Type 1} → statement M
+draw-few-spec =
     tie.close
     (tie.spec
     slice-aggregate-unpack-words
     unpack-words-requires
     array-share-prefix-words
-    slice-aggregate-draw-solid
-    draw-solid-requires
+    slice-aggregate-draw-flat
+    draw-flat-requires
     same-length
     returns)

@@ -1,0 +1,3 @@
+-- What the proofs of the drawings share.
+pub mod TapeWords
+pub mod TapeSlopes

@@ -1,0 +1,78 @@
+-- The words of an unpacked tape: how many, that they run, and that what they draw is what the tape draws.
+use mathlib.Core.Path.{_≡_, ap, _∙_}
+use mathlib.Core.Bool.{Bool, true, false}
+use mathlib.Core.List.{List}
+use Prim.Native.Nat.{ℕ, _*_, _≤_}
+use native.Mathlib.Omega.{arith}
+use lib.ListN.{length, take}
+use lib.Seq.{length-take-le}
+use Rattle.rules.specs.Tapes.{readTape, clauseLimit}
+use Rattle.rules.specs.Drawings as D
+use Rattle.rules.specs.Pictures.{stride, picture, pictureSize}
+use Rattle.rules.specs.Accepted.{Accepted}
+use Rattle.rules.proofs.Accepted.{accepted-tape}
+use Rattle.code.specs.Words.{tapeIn}
+use Rattle.code.specs.Unpacking.{Unpacked}
+use Rattle.code.proofs.WordTapes.{words-runnable, unpacked-tape, unpacked-accepted}
+use Rattle.picture.specs.Shapes.{gridIn}
+use Rattle.picture.specs.declared.grid.Grid.{Grid}
+use Rattle.full_drawing.specs.Full.{Drawable, FullDrawn}
+use Rattle.walk.specs.Walks.{Sound, Walked}
+use Rattle.editions.specs.Sizes.{Draws, FullOf, TilesOf}
+
+-- The length of a picture, of each kind.
+pub solid-size : (t : Bool) (g : D.Grid) → t ≡ true → g .width * g .height ≡ pictureSize t g
+unfolding pictureSize
+solid-size t g e = rw e
+
+pub flat-size : (t : Bool) (g : D.Grid) → t ≡ false → g .height * stride (g .width) ≡ pictureSize t g
+unfolding pictureSize
+flat-size t g e = rw e
+
+-- The words of a tape that is accepted and unpacked: how many, and that they run.
+module _ {t : Bool} {s : List ℕ} {g : D.Grid} {n m : ℕ} (d : Draws t s g n m) {ws ws′ : List ℕ} {k : ℕ}
+    (o : Unpacked s ws ws′ k) (l : length ws′ ≡ m) where
+  pub words-room : k ≤ length ws′
+  words-room = omega (arith, o .count, d .room)
+
+  pub words-few : length (take k ws′) ≤ clauseLimit
+  words-few = omega (arith, length-take-le k ws′ words-room, o .count, accepted-tape s (d .read) .clauses)
+
+  pub words-within : length (take k ws′) ≤ m
+  words-within = omega (arith, length-take-le k ws′ words-room, words-room, l)
+
+  pub words-accepted : Accepted (tapeIn (readTape s .tape .slots) (take k ws′))
+  words-accepted = unpacked-accepted s ws ws′ k o (d .read)
+
+  pub words-tape : tapeIn (readTape s .tape .slots) (take k ws′) ≡ readTape s .tape
+  words-tape = unpacked-tape s ws ws′ k o
+
+  pub drawable : Drawable t (take k ws′) g
+  drawable =
+      record {
+        runnable = words-runnable (readTape s .tape .slots) (take k ws′) words-accepted;
+        accepted = d .grid;
+      }
+
+  pub sound : Sound (take k ws′)
+  sound = record { slots = readTape s .tape .slots; accepted = words-accepted }
+
+  -- What these words draw, the tape draws.
+  pub full-of : {o′ : List ℕ} {c : ℕ} → FullDrawn t (take k ws′) g o′ c → FullOf t s g o′ c
+  full-of v =
+      let n = readTape s .tape .slots in
+      record {
+        pixels = v .pixels n words-accepted ∙ ap (λ a. picture t g (D.drawn a g)) words-tape;
+        count = v .clauses n words-accepted ∙ ap (λ a. D.fullCount a g) words-tape;
+      }
+
+pub tiles-of : {t : Bool} {s : List ℕ} {r : Grid} {n m : ℕ} → Draws t s (gridIn r t) n m → {ws ws′ : List ℕ} {k : ℕ}
+    → Unpacked s ws ws′ k → length ws′ ≡ m → {o′ : List ℕ} {c : ℕ} → Walked t (take k ws′) r o′ c
+    → TilesOf t s (gridIn r t) o′ c
+tiles-of {t} {s} {r} d o l v =
+    let g = gridIn r t in
+    let n = readTape s .tape .slots in
+    record {
+      pixels = v .pixels n (words-accepted d o l) ∙ ap (λ b. picture t g (D.walked b g .heights)) (words-tape d o l);
+      count = v .count n (words-accepted d o l) ∙ ap (λ b. D.walked b g .clauses) (words-tape d o l);
+    }

@@ -1,0 +1,2 @@
+-- What the drawings of each edition ask and give.
+pub mod Sizes
