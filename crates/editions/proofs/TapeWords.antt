@@ -1,14 +1,14 @@
 -- The words of an unpacked tape: how many, that they run, and that what they draw is what the tape draws.
 use mathlib.Core.Path.{_≡_, ap, _∙_}
-use mathlib.Core.Bool.{Bool, true, false}
+use mathlib.Core.Bool.{Bool}
 use mathlib.Core.List.{List}
-use Prim.Native.Nat.{ℕ, _*_, _≤_}
+use Prim.Native.Nat.{ℕ, _≤_}
 use native.Mathlib.Omega.{arith}
 use lib.ListN.{length, take}
 use lib.Seq.{length-take-le}
 use Rattle.rules.specs.Tapes.{readTape, clauseLimit}
 use Rattle.rules.specs.Drawings as D
-use Rattle.rules.specs.Pictures.{stride, picture, pictureSize}
+use Rattle.rules.specs.Pictures.{picture}
 use Rattle.rules.specs.Accepted.{Accepted}
 use Rattle.rules.proofs.Accepted.{accepted-tape}
 use Rattle.code.specs.Words.{tapeIn}
@@ -19,15 +19,6 @@ use Rattle.picture.specs.declared.grid.Grid.{Grid}
 use Rattle.full_drawing.specs.Full.{Drawable, FullDrawn}
 use Rattle.walk.specs.Walks.{Sound, Walked}
 use Rattle.editions.specs.Sizes.{Draws, FullOf, TilesOf}
-
--- The length of a picture, of each kind.
-pub solid-size : (t : Bool) (g : D.Grid) → t ≡ true → g .width * g .height ≡ pictureSize t g
-unfolding pictureSize
-solid-size t g e = rw e
-
-pub flat-size : (t : Bool) (g : D.Grid) → t ≡ false → g .height * stride (g .width) ≡ pictureSize t g
-unfolding pictureSize
-flat-size t g e = rw e
 
 -- The words of a tape that is accepted and unpacked: how many, and that they run.
 module _ {t : Bool} {s : List ℕ} {g : D.Grid} {n m : ℕ} (d : Draws t s g n m) {ws ws′ : List ℕ} {k : ℕ}

@@ -17,7 +17,8 @@ use Rattle.picture.specs.Shapes.{gridIn}
 use Rattle.picture.specs.declared.grid.Grid.{Grid}
 use Rattle.editions.specs.Sizes.{Draws, FullOf}
 use Rattle.layers.specs.declared.Answer.{Answer}
-use Rattle.layers.specs.Says.{lengthFault, drawLines, drawFault, FullSays}
+use Rattle.refusals.specs.Lines.{lengthFault}
+use Rattle.layers.specs.Says.{drawLines, drawFault, FullSays}
 use Rattle.layers.proofs.Answers.{answer, refused-by, done-by}
 
 pub when-zero : (t : Bool) (n : ℕ) → when (not t) (suc n) ≡ 0 → t ≡ true

@@ -1,6 +1,5 @@
 -- What the proofs of the calls share.
 pub mod Answers
-pub mod StepLaws
 pub mod Drawing
 pub mod Tiling
 pub mod Sloping

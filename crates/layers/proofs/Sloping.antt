@@ -16,7 +16,8 @@ use Rattle.picture.specs.Shapes.{gridIn}
 use Rattle.picture.specs.declared.grid.Grid.{Grid}
 use Rattle.editions.specs.Sizes.{SlopesOf}
 use Rattle.layers.specs.declared.Answer.{Answer}
-use Rattle.layers.specs.Says.{lengthFault, slopeFault, workFault, slopeLines, slopesFault, SlopesSay}
+use Rattle.refusals.specs.Lines.{lengthFault, slopeFault, workFault}
+use Rattle.layers.specs.Says.{slopeLines, slopesFault, SlopesSay}
 use Rattle.layers.proofs.Answers.{answer, refused-by, done-by}
 use Rattle.layers.proofs.Drawing.{when-zero, Clear, clear}
 

@@ -16,7 +16,8 @@ use Rattle.picture.specs.Shapes.{gridIn}
 use Rattle.picture.specs.declared.grid.Grid.{Grid}
 use Rattle.editions.specs.Sizes.{TilesOf}
 use Rattle.layers.specs.declared.Answer.{Answer}
-use Rattle.layers.specs.Says.{lengthFault, workFault, tileLines, tileFault, TilesSay}
+use Rattle.refusals.specs.Lines.{lengthFault, workFault}
+use Rattle.layers.specs.Says.{tileLines, tileFault, TilesSay}
 use Rattle.layers.proofs.Answers.{answer, refused-by, done-by}
 use Rattle.layers.proofs.Drawing.{Clear, clear}
 

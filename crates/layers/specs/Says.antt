@@ -21,6 +21,7 @@ use Rattle.rules.specs.Probes.{probeFault, probedValue}
 use Rattle.probe.specs.Points.{pointIn}
 use Rattle.probe.specs.Sides.{probeOf, sideNumber, sideValue}
 use Rattle.probe.specs.declared.point.Point.{Point}
+use Rattle.refusals.specs.Lines.{lengthFault, slopeFault, workFault}
 use Rattle.layers.specs.declared.Answer.{Answer}
 use Rattle.layers.specs.declared.Listed.{Listed}
 use Rattle.layers.specs.declared.probing.Probed.{Probed}
@@ -66,13 +67,6 @@ BitmapSays w h p o o′ r = FileSays w h (h * stride w) p (bitmapFile w h p) o o
 abbrev pub HeightsSay : ℕ → ℕ → List ℕ → List ℕ → List ℕ → Answer → Type 0
 HeightsSay w h p o o′ r = FileSays w h (w * h) p (heightFile w h p) o o′ r
 
--- Lines 12 and 13: "picture buffer not of the exact length", n its length; "work buffer below 32,768 bytes".
-abbrev pub lengthFault : Bool → D.Grid → ℕ → ℕ
-lengthFault isSolid g n = when (not (eqb n (pictureSize isSolid g))) 12
-
-abbrev pub workFault : ℕ → ℕ
-workFault m = when (ltb m D.workLimit) 13
-
 -- "Drawing checks 1 to 4, then 5 to 9 clause by clause, then 10 to 13 (in full, 10 to 12)": n is the picture's length,
 -- m the work buffer's. Reading the tape has lines 1 to 9, the grid 10 and 11.
 abbrev pub drawLines : Bool → List ℕ → D.Grid → ℕ → List ℕ
@@ -115,10 +109,6 @@ pub record SidedSays (s : List ℕ) (p : Point) (r : Sided) : Type 0 where
   pub answer : Answered (probeFault s (pointIn p)) (readTape s .place) 0 (r .answer)
   pub side : r .side ≡ sideNumber (probeOf (probeFault s (pointIn p)) (probedValue s (pointIn p)))
   pub value : r .value ≡ sideValue (probeOf (probeFault s (pointIn p)) (probedValue s (pointIn p)))
-
--- "a slope buffer not of three a pixel counts under 12"; m its length.
-abbrev pub slopeFault : D.Grid → ℕ → ℕ
-slopeFault g m = when (not (eqb m (3 * (g .width * g .height)))) 12
 
 -- Lines 1 to 11, 12 for the picture and for the slopes, 13.
 abbrev pub slopeLines : List ℕ → D.Grid → ℕ → ℕ → ℕ → List ℕ

@@ -3,7 +3,6 @@ mod flat;
 mod probing;
 mod sloped;
 mod solid;
-mod steps;
 
 pub use flat::draw_flat;
 pub use flat::tile_flat;
@@ -13,14 +12,12 @@ pub use probing::Probed;
 pub use probing::Sided;
 pub use probing::probe;
 pub use probing::probe_side;
+pub use refusals::WORK_LIMIT;
 pub use sloped::tile_slopes;
 pub use solid::draw_solid;
 pub use solid::tile_solid;
 ghost use mathlib.Core.Path.{_≡_};
 ghost use Rattle.layers.specs.Says.{PackSays, UnpackSays, BitmapSays, HeightsSay, TextAnswered};
-
-// The least length of a work buffer.
-pub const WORK_LIMIT: usize = 32768;
 
 // The number of the paper's table, the clause at fault, and the clauses counted.
 #[repr(C)]

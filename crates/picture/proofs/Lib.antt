@@ -8,3 +8,4 @@ pub mod BitBytes
 pub mod BitMarks
 pub mod BitShows
 pub mod PartLaws
+pub mod PictureSizes

@@ -5,7 +5,7 @@ use mathlib.Core.Bool.{false}
 use lib.ListN.{length}
 use lib.Seq.{length-take-le}
 use Rattle.rules.specs.Tapes.{firstClauses}
-use Rattle.editions.proofs.TapeWords.{flat-size}
+use Rattle.picture.proofs.PictureSizes.{flat-size}
 use Rattle.editions.proofs.TapeWords.{words-room, words-few, drawable, full-of}
 use Rattle.editions.proofs.flat.draw_few.Statement.{statement}
 use Rattle.editions.proofs.flat.draw_few.Tie as tie

@@ -5,7 +5,7 @@ use mathlib.Core.Bool.{false}
 use native.Mathlib.Omega.{arith}
 use lib.ListN.{length}
 use lib.Seq.{length-take-le}
-use Rattle.editions.proofs.TapeWords.{flat-size}
+use Rattle.picture.proofs.PictureSizes.{flat-size}
 use Rattle.editions.proofs.TapeWords.{words-room, words-few, words-within, sound, tiles-of}
 use Rattle.editions.proofs.flat.tile_words.Statement.{statement}
 use Rattle.editions.proofs.flat.tile_words.Tie as tie

@@ -7,7 +7,7 @@ use lib.ListN.{length}
 use lib.Seq.{length-take-le}
 use Rattle.picture.specs.Shapes.{gridIn}
 use Rattle.editions.specs.Sizes.{TilesOf}
-use Rattle.editions.proofs.TapeWords.{solid-size}
+use Rattle.picture.proofs.PictureSizes.{solid-size}
 use Rattle.editions.proofs.TapeWords.{words-room, words-few, words-within, sound, tiles-of}
 use Rattle.editions.proofs.TapeSlopes.{walked-heights, slopes-of}
 use Rattle.editions.proofs.sloped.slope_words.Statement.{statement}

@@ -5,7 +5,7 @@ use mathlib.Core.Bool.{true}
 use lib.ListN.{length}
 use lib.Seq.{length-take-le}
 use Rattle.rules.specs.Tapes.{firstClauses}
-use Rattle.editions.proofs.TapeWords.{solid-size}
+use Rattle.picture.proofs.PictureSizes.{solid-size}
 use Rattle.editions.proofs.TapeWords.{words-room, words-few, drawable, full-of}
 use Rattle.editions.proofs.solid.draw_few.Statement.{statement}
 use Rattle.editions.proofs.solid.draw_few.Tie as tie

@@ -5,7 +5,7 @@ use mathlib.Core.Bool.{true}
 use native.Mathlib.Omega.{arith}
 use lib.ListN.{length}
 use lib.Seq.{length-take-le}
-use Rattle.editions.proofs.TapeWords.{solid-size}
+use Rattle.picture.proofs.PictureSizes.{solid-size}
 use Rattle.editions.proofs.TapeWords.{words-room, words-few, words-within, sound, tiles-of}
 use Rattle.editions.proofs.solid.tile_words.Statement.{statement}
 use Rattle.editions.proofs.solid.tile_words.Tie as tie

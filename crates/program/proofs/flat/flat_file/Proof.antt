@@ -6,7 +6,7 @@ use native.Mathlib.Omega.{arith}
 use lib.ListN.{length}
 use lib.Seq.{length-take-le}
 use Rattle.picture.specs.Shapes.{gridIn}
-use Rattle.layers.proofs.StepLaws.{flat-size}
+use Rattle.picture.proofs.PictureSizes.{flat-size}
 use Rattle.program.proofs.Layers.{short-start, Tiled, tiled, sided, pixels, bitmap-length}
 use Rattle.program.proofs.Layers.{layer-refused, layer-done}
 use borrow.Author.Needs.{needs}

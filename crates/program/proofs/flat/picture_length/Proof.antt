@@ -3,7 +3,7 @@ use mathlib.Core.Path.{refl, sym, ap, subst, _∙_}
 use mathlib.Core.Bool.{false}
 use Prim.Native.Nat.{_*_, _≤_}
 use native.Mathlib.Omega.{arith}
-use Rattle.layers.proofs.StepLaws.{flat-size}
+use Rattle.picture.proofs.PictureSizes.{flat-size}
 use Rattle.netpbm.proofs.FileLaws.{Sides, most-bytes}
 use Rattle.program.proofs.Layers.{sides}
 use borrow.Author.Needs.{needs}

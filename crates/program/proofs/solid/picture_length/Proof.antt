@@ -4,7 +4,7 @@ use mathlib.Core.Bool.{true}
 use Prim.Native.Nat.{_*_, _≤_}
 use native.Mathlib.Nat.{mul-le-mul}
 use native.Mathlib.Omega.{arith}
-use Rattle.layers.proofs.StepLaws.{solid-size}
+use Rattle.picture.proofs.PictureSizes.{solid-size}
 use borrow.Author.Needs.{needs}
 use Rattle.program.proofs.solid.picture_length.Statement.{statement}
 use Rattle.program.proofs.solid.picture_length.Tie as tie

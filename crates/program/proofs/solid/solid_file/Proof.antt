@@ -6,7 +6,7 @@ use native.Mathlib.Omega.{arith}
 use lib.ListN.{length}
 use lib.Seq.{length-take-le}
 use Rattle.picture.specs.Shapes.{gridIn}
-use Rattle.layers.proofs.StepLaws.{solid-size}
+use Rattle.picture.proofs.PictureSizes.{solid-size}
 use Rattle.program.proofs.Layers.{short-start, Tiled, tiled, sided, heights-length, layer-refused, layer-done}
 use borrow.Author.Needs.{needs}
 use Rattle.program.proofs.solid.solid_file.Statement.{statement}

@@ -1,4 +1,4 @@
--- The steps of a call: a search through its lines, and the length of a picture.
+-- The checks of a call: a search through its lines, and the length of a picture.
 use mathlib.Core.Path.{_≡_, refl, sym, ap, _∙_}
 use mathlib.Core.Bool.{Bool, true, false, not}
 use mathlib.Core.List.{List}
@@ -14,7 +14,7 @@ use Rattle.rules.specs.Values.{firstOf, firstFault, when}
 use Rattle.rules.specs.Drawings as D
 use Rattle.rules.specs.Pictures.{pictureSize}
 use Rattle.rules.proofs.Lines.{first-here}
-use Rattle.layers.specs.Says.{lengthFault, slopeFault, workFault}
+use Rattle.refusals.specs.Lines.{lengthFault, slopeFault, workFault}
 
 -- The lines from the i-th on: the first of these is the first of all.
 pub record From (lines : List ℕ) (i : ℕ) : Type 0 where

@@ -1,13 +1,16 @@
-// The steps of a call: each check gives the number of its line in the scope paper's table, or 0. A call lists its
-// checks in the paper's order, and the first that holds is returned.
-use crate::WORK_LIMIT;
+// The checks of a call: each gives the number of its line in the scope paper's table, or 0. A call lists its checks in
+// the paper's order, and the first that holds is returned. Lines 12 and 13 are here, those of tapes and grids where
+// these are read.
 use picture::grid::Grid;
 ghost use mathlib.Core.Path.{_≡_};
 ghost use mathlib.Core.Bool.{true};
 ghost use Rattle.rules.specs.Values.{firstFault};
 ghost use Rattle.rules.specs.Pictures.{pictureSize};
 ghost use Rattle.picture.specs.Shapes.{gridIn};
-ghost use Rattle.layers.specs.Says.{lengthFault, slopeFault, workFault};
+ghost use Rattle.refusals.specs.Lines.{lengthFault, slopeFault, workFault};
+
+// The least length of a work buffer.
+pub const WORK_LIMIT: usize = 32768;
 
 pub fn first_fault(lines: &[u8]) -> u8
     ensures { λ r. ⌜ r ≡ firstFault (now (lines .entry)) ⌝ }

@@ -1,11 +1,11 @@
 -- The picture's length, on any sizes of 32 bits.
 use Prim.Native.Nat.{_+_, _/_, _≤_}
 use native.Mathlib.Omega.{arith}
-use Rattle.editions.proofs.TapeWords.{solid-size, flat-size}
-use Rattle.layers.proofs.StepLaws.{area}
+use Rattle.picture.proofs.PictureSizes.{solid-size, flat-size}
+use Rattle.refusals.proofs.LineLaws.{area}
 use borrow.Author.Needs.{needs}
-use Rattle.layers.proofs.steps.picture_length.Statement.{statement}
-use Rattle.layers.proofs.steps.picture_length.Tie as tie
+use Rattle.refusals.proofs.picture_length.Statement.{statement}
+use Rattle.refusals.proofs.picture_length.Tie as tie
 
 abbrev at-start : tie.After-struct-known2 → tie.Start
 at-start c = c .before .before

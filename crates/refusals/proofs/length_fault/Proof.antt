@@ -1,8 +1,8 @@
 -- Compared with the length as it must be.
-use Rattle.layers.proofs.StepLaws.{length-wrong, length-right}
+use Rattle.refusals.proofs.LineLaws.{length-wrong, length-right}
 use borrow.Author.Needs.{needs}
-use Rattle.layers.proofs.steps.length_fault.Statement.{statement}
-use Rattle.layers.proofs.steps.length_fault.Tie as tie
+use Rattle.refusals.proofs.length_fault.Statement.{statement}
+use Rattle.refusals.proofs.length_fault.Tie as tie
 
 picture-length-requires : tie.Need-picture-length-requires
 picture-length-requires c κs = search needs

@@ -1,0 +1,2 @@
+-- The lines of a call that are about lengths.
+pub mod Lines
