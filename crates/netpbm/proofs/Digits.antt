@@ -8,7 +8,7 @@ use native.Mathlib.Omega.{arith}
 use lib.ListN.{length, length-append}
 use borrow.Author.Tests.{lt-ltb, le-ltb}
 use Rattle.rules.specs.Pictures.{digitsFrom, decimal}
-use Rattle.rules.specs.Program.{numeral}
+use Rattle.rules.specs.Pictures.{numeral}
 
 last : (l v : ℕ) → v < 10 → digitsFrom (suc l) v ≡ (48 + v) ∷ []
 unfolding digitsFrom

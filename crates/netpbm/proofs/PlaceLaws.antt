@@ -6,7 +6,7 @@ use native.Mathlib.Decide.{decLt}
 use native.Mathlib.Nat.{pow-succ', one-le-pow, le-trans, div-le-self, div-one, div-div-eq-div-mul, le-div-iff-mul-le}
 use native.Mathlib.Omega.{arith}
 use lib.ListN.{length, length-append}
-use Rattle.rules.specs.Program.{numeral}
+use Rattle.rules.specs.Pictures.{numeral}
 use Rattle.netpbm.specs.Places.{Place}
 use Rattle.netpbm.proofs.Digits.{digit, digits, length-digits}
 

@@ -3,7 +3,7 @@ ghost use mathlib.Core.Path.{_≡_};
 ghost use mathlib.Core.List.{_∷_, []};
 ghost use Prim.Native.Nat.{_+_, _/_, _≤_, _<_};
 ghost use lib.ListN.{length};
-ghost use Rattle.rules.specs.Program.{numeral};
+ghost use Rattle.rules.specs.Pictures.{numeral};
 ghost use Rattle.netpbm.specs.Appending.{Appends};
 ghost use Rattle.netpbm.specs.Places.{Place};
 

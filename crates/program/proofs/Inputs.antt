@@ -11,8 +11,8 @@ use lib.Seq.{take-all}
 use borrow.Author.Tests.{le-leb, lt-leb, leb-true, ltb-false, eq-eqb, ne-eqb}
 use Rattle.rules.specs.Tapes.{placeOf, readTape}
 use Rattle.rules.specs.Drawings as D
-use Rattle.rules.specs.Program.{recordLength, tapeAfter, gridRecord, recordOk, solidLimit, tooLarge, programFault}
-use Rattle.rules.specs.Program.{programPlace, fileOf, countLine, refusedLine, Output, programOf}
+use Rattle.program_rules.specs.Program.{recordLength, tapeAfter, gridRecord, recordOk, solidLimit, tooLarge, programFault}
+use Rattle.program_rules.specs.Program.{programPlace, fileOf, countLine, refusedLine, Output, programOf}
 use Rattle.rules.proofs.Order.{and-left}
 use Rattle.netpbm.specs.Appending.{Appends}
 use Rattle.netpbm.proofs.Written as Written

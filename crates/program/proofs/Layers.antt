@@ -12,7 +12,7 @@ use Rattle.rules.specs.Values.{pick, firstOf, firstFault, when}
 use Rattle.rules.specs.Tapes.{readTape}
 use Rattle.rules.specs.Drawings as D
 use Rattle.rules.specs.Pictures.{stride, sidesOk, picture, pictureSize, head, bitmapFile, heightFile}
-use Rattle.rules.specs.Program.{fileOf}
+use Rattle.program_rules.specs.Program.{fileOf}
 use Rattle.rules.proofs.Lines.{each-line}
 use Rattle.picture.specs.Shapes.{gridIn}
 use Rattle.picture.specs.declared.grid.Grid.{Grid}

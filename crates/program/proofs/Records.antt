@@ -9,7 +9,7 @@ use lib.ListN.{length}
 use borrow.Author.Tests.{lt-ltb, le-ltb, le-leb, lt-leb}
 use Rattle.rules.specs.Tapes.{word, signed4}
 use Rattle.rules.specs.Drawings as D
-use Rattle.rules.specs.Program.{recordLength, recordOk, gridRecord, solidLimit, tooLarge}
+use Rattle.program_rules.specs.Program.{recordLength, recordOk, gridRecord, solidLimit, tooLarge}
 use Rattle.tape.specs.Clauses.{marked}
 use Rattle.tape.proofs.FieldValues.{kept, small, kept-is}
 use Rattle.picture.specs.Shapes.{gridIn}

@@ -9,7 +9,7 @@ use Rattle.rules.specs.Values.{pick, firstFault}
 use Rattle.rules.specs.Tapes.{Got, readTape}
 use Rattle.rules.specs.Drawings as D
 use Rattle.rules.specs.Pictures.{pictureSize}
-use Rattle.rules.specs.Program.{tapeAfter, gridRecord, programFault, fileOf, Output, programOf}
+use Rattle.program_rules.specs.Program.{tapeAfter, gridRecord, programFault, fileOf, Output, programOf}
 use Rattle.picture.specs.Shapes.{gridIn}
 use Rattle.picture.specs.declared.grid.Grid.{Grid}
 use Rattle.layers.specs.Says.{Answered}

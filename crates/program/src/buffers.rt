@@ -4,7 +4,7 @@ use layers::WORK_LIMIT;
 ghost use mathlib.Core.Path.{_≡_};
 ghost use lib.ListN.{length, replicate};
 ghost use Rattle.rules.specs.Drawings.{workLimit};
-ghost use Rattle.rules.specs.Program.{inputLimit};
+ghost use Rattle.program_rules.specs.Program.{inputLimit};
 
 // The pixels of the largest solid, 128 by 128.
 const HEIGHTS: usize = 16384;

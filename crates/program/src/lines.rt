@@ -3,7 +3,7 @@ use netpbm::append::put;
 use netpbm::decimal::put_number;
 ghost use Prim.Native.Nat.{_+_, _≤_};
 ghost use lib.ListN.{length};
-ghost use Rattle.rules.specs.Program.{countLine, refusedLine};
+ghost use Rattle.program_rules.specs.Program.{countLine, refusedLine};
 ghost use Rattle.netpbm.specs.Appending.{Appends};
 
 // A number and a newline.

@@ -6,7 +6,7 @@ use tape::bytes::word_at;
 ghost use mathlib.Core.Path.{_≡_};
 ghost use mathlib.Core.Bool.{true};
 ghost use Prim.Native.Nat.{_≤_};
-ghost use Rattle.rules.specs.Program.{recordLength, recordOk, gridRecord, tooLarge};
+ghost use Rattle.program_rules.specs.Program.{recordLength, recordOk, gridRecord, tooLarge};
 ghost use Rattle.picture.specs.Shapes.{gridIn};
 
 pub const RECORD_LENGTH: usize = 32;

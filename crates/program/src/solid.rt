@@ -9,7 +9,7 @@ use picture::grid::Grid;
 ghost use mathlib.Core.Path.{_≡_};
 ghost use mathlib.Core.Bool.{true};
 ghost use Prim.Native.Nat.{_≤_};
-ghost use Rattle.rules.specs.Program.{solidLimit};
+ghost use Rattle.program_rules.specs.Program.{solidLimit};
 ghost use Rattle.program.specs.Says.{outputLength, PictureFits, FileSays};
 
 fn picture_length(grid: Grid) -> usize

@@ -10,7 +10,7 @@ use lib.ListN.{length, drop, length-append}
 use borrow.Author.Tests.{ne-eqb, leb-true}
 use Rattle.rules.specs.Values.{pick}
 use Rattle.rules.specs.Tapes.{Tape, word, placeOf, tapeBytes}
-use Rattle.rules.specs.Program.{refusedLine}
+use Rattle.program_rules.specs.Program.{refusedLine}
 use Rattle.rules.proofs.Tests.{and-left}
 use Rattle.netpbm.specs.Appending.{Appends}
 use Rattle.netpbm.proofs.Written.{at-start}

@@ -5,7 +5,7 @@ use Prim.Native.Nat.{ℕ}
 use lib.Dec.{eqb}
 use lib.ListN.{length}
 use Rattle.rules.specs.Values.{pick}
-use Rattle.rules.specs.Program.{refusedLine}
+use Rattle.program_rules.specs.Program.{refusedLine}
 use Rattle.formula_rules.specs.FormulaReader.{reader}
 use Rattle.formula.specs.Says.{answerFault, answerBytes, inFront}
 

@@ -3,17 +3,18 @@
 use mathlib.Core.Path.{_≡_, refl, sym, ap, _∙_}
 use mathlib.Core.Bool.{Bool, true, false, _&&_, _||_, not, and-false, and-true}
 use mathlib.Core.List.{List, [], _∷_, _++_, map}
-use Prim.Native.Nat.{ℕ, zero, suc, _+_, _*_, _≤_}
+use Prim.Native.Nat.{ℕ, zero, suc, _+_, _*_, _≤_, _<_}
 use native.Mathlib.Omega.{arith}
 use lib.Dec.{eqb, ltb, leb}
-use lib.ListN.{length, getD, drop}
-use borrow.Author.Tests.{leb-true, le-leb, eqb-true, ne-eqb, le-ltb}
+use lib.IntN.{pos}
+use lib.ListN.{length, getD, drop, replicate}
+use borrow.Author.Tests.{leb-true, le-leb, eqb-true, ne-eqb, eq-eqb, lt-ltb, le-ltb}
 use Rattle.rules.specs.Values.{pick}
 use Rattle.rules.specs.Tapes.{Got, bad, slotLimit, clauseLimit, edition, word}
 use Rattle.rules.specs.Tapes.{countsOk, headCounts, headOk, rawsFrom, readClauses, readTape}
-use Rattle.rules.specs.Tapes.{headBytes, tapeBytes, allBytes, two, rawIn, signed4, faultFrom, clauseFault, badSlot}
-use Rattle.rules.specs.Tapes.{badUnused, badConstant, badRead}
-use Rattle.rules.proofs.Reading.{tape-accepted}
+use Rattle.rules.specs.Tapes.{headBytes, tapeBytes, allBytes, two, Raw, rawIn, signed4, faultFrom, clauseFault}
+use Rattle.rules.specs.Tapes.{isEdition, badSlot, badUnused, badConstant, badRead}
+use Rattle.rules.proofs.Reading.{tape-accepted, Counts, counts-hold, head-counts-hold}
 use Rattle.rules.proofs.Tests.{and-left, and-right}
 use Rattle.rules.proofs.Bytes.{both-ways}
 
@@ -115,19 +116,63 @@ pub head-figure : headBytes 101 1103 ≡ 84 ∷ (80 ∷ (2 ∷ (101 ∷ (79 ∷ 
 unfolding edition
 head-figure = refl
 
-abbrev pub fives : ℕ → List ℕ
+unfoldable pub fives : ℕ → List ℕ
 fives zero = []
 fives (suc k) = 67 ∷ (76 ∷ (0 ∷ (0 ∷ (0 ∷ (0 ∷ (5 ∷ (0 ∷ (0 ∷ (0 ∷ fives k)))))))))
 
-abbrev pub tapeOf : ℕ → ℕ → ℕ → List ℕ
+unfoldable pub tapeOf : ℕ → ℕ → ℕ → List ℕ
 tapeOf e n k = 84 ∷ (80 ∷ (e ∷ (n ∷ (two k ++ (0 ∷ (0 ∷ fives k))))))
 
+-- Such tapes of any length, so that none of 6,144 clauses need be computed: nothing but the counts can refuse them.
+abbrev five : Raw
+five = record { opcode = pos 0; out = pos 0; left = pos 0; right = pos 0; constant = pos 5 }
+
+fives-long : (k : ℕ) → length (fives k) ≡ 10 * k
+unfolding fives
+fives-long zero = refl
+fives-long (suc k) = omega (arith, fives-long k)
+
+fives-raw : (k : ℕ) → rawsFrom k (fives k) ≡ replicate k five
+unfolding fives rawsFrom rawIn signed4
+fives-raw zero = refl
+fives-raw (suc k) = ap (λ (rs : List Raw). five ∷ rs) (fives-raw k)
+
+five-fault : (n : ℕ) (w : List ℕ) → 0 < n → clauseFault n w five ≡ 0
+unfolding clauseFault badSlot badUnused badConstant badRead
+five-fault n w h = rw (lt-ltb 0 n h)
+
+fives-fault : (n i k : ℕ) (w : List ℕ) → 0 < n → faultFrom n i w (replicate k five) .number ≡ 0
+unfolding faultFrom
+fives-fault n i zero w h = refl
+fives-fault n i (suc k) w h = rw (five-fault n w h, faultFrom) (fives-fault n (suc i) k (0 ∷ w) h)
+
+fives-word : (e n k : ℕ) → k ≤ 65535 → word 4 (tapeOf e n k) ≡ k
+unfolding tapeOf
+fives-word e n k h = omega arith
+
+pub fives-read : (e n k : ℕ) → isEdition e ≡ true → k ≤ 65535
+    → readTape (tapeOf e n k) .number ≡ pick (headCounts e n k) 0 3
+unfolding tapeOf readTape headOk readClauses
+fives-read e n k q h = go (headCounts e n k) refl
+  where
+    go : (t : Bool) → headCounts e n k ≡ t → readTape (tapeOf e n k) .number ≡ pick t 0 3
+    go true c =
+        let counts = counts-hold n k (head-counts-hold e n k c) in
+        let long : length (tapeOf e n k) ≡ 8 + 10 * k = omega (arith, fives-long k) in
+        let room = le-ltb (length (tapeOf e n k)) 8 (omega arith) in
+        let size = eq-eqb (length (tapeOf e n k)) (8 + 10 * k) long in
+        rw (room, q, fives-word e n k h, c, size, fives-raw k, fives-fault n 0 k [] (omega arith))
+    go false c =
+        rw (le-ltb (length (tapeOf e n k)) 8 (omega arith), q, fives-word e n k h, c)
+
 pub record Row : Type 0 where
-  pub tape : List ℕ
+  pub edition : ℕ
+  pub slots : ℕ
+  pub clauses : ℕ
   pub said : ℕ
 
 abbrev pub row : ℕ → ℕ → ℕ → ℕ → Row
-row e n k a = record { tape = tapeOf e n k; said = a }
+row e n k a = record { edition = e; slots = n; clauses = k; said = a }
 
 abbrev pub rows : List Row
 rows =
@@ -137,7 +182,28 @@ rows =
     ∷ (row 2 65 1 0
     ∷ (row 2 128 6144 0 ∷ (row 2 129 1 3 ∷ (row 2 128 6145 3 ∷ (row 2 65 0 3 ∷ [])))))))
 
-pub figures : map (λ r. readTape (r .tape) .number) rows ≡ map (λ r. r .said) rows
-unfolding readTape headOk countsOk headCounts edition rawsFrom rawIn signed4 readClauses faultFrom clauseFault badSlot
-    badUnused badConstant badRead
-figures = refl
+abbrev numberOf : Row → ℕ
+numberOf r = readTape (tapeOf (r .edition) (r .slots) (r .clauses)) .number
+
+pub figures : map numberOf rows ≡ map (λ r. r .said) rows
+unfolding headCounts countsOk edition
+figures =
+    rw (
+      fives-read 1 1 1025 refl (omega arith),
+      fives-read 2 1 1025 refl (omega arith),
+      fives-read 2 1 1024 refl (omega arith),
+      fives-read 2 65 1 refl (omega arith),
+      fives-read 2 128 6144 refl (omega arith),
+      fives-read 2 129 1 refl (omega arith),
+      fives-read 2 128 6145 refl (omega arith),
+      fives-read 2 65 0 refl (omega arith),
+    )
+
+-- Tapes of one clause, by computation alone.
+abbrev small : List Row
+small = row 1 1 1 0 ∷ (row 2 1 1 3 ∷ (row 1 65 1 3 ∷ (row 2 65 1 0 ∷ (row 2 129 1 3 ∷ []))))
+
+pub small-figures : map numberOf small ≡ map (λ r. r .said) small
+unfolding tapeOf fives readTape headOk countsOk headCounts edition rawsFrom rawIn signed4 readClauses faultFrom
+    clauseFault badSlot badUnused badConstant badRead
+small-figures = refl

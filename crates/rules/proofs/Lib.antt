@@ -41,5 +41,3 @@ pub mod RestatedTapes
 pub mod RestatedDrawings
 pub mod RestatedPictures
 pub mod Demands
-pub mod Example
-pub mod Program

@@ -1,5 +1,5 @@
 -- What must hold, to be read against the scope paper: fixed-point values and ranges, tapes and what makes one accepted,
--- drawings, slopes, pictures and their files, probes, the program, and the demands.
+-- drawings, slopes, pictures and their files, probes, and the demands.
 pub mod Values
 pub mod Tapes
 pub mod Marks
@@ -8,5 +8,4 @@ pub mod Drawings
 pub mod Slopes
 pub mod Pictures
 pub mod Probes
-pub mod Program
 pub mod Demands

@@ -43,6 +43,10 @@ digitsFrom (suc l) v =
 abbrev pub decimal : ℕ → List ℕ
 decimal v = digitsFrom 5 v
 
+-- Any number of 64 bits in decimal: 20 digits are enough.
+abbrev pub numeral : ℕ → List ℕ
+numeral v = digitsFrom 20 v
+
 unfoldable pub head : ℕ → ℕ → ℕ → List ℕ
 head k w h = 80 ∷ (k ∷ (10 ∷ (decimal w ++ (32 ∷ (decimal h ++ (10 ∷ []))))))
 

@@ -4,7 +4,7 @@ use mathlib.Core.Path.{_≡_, ap}
 use Prim.Native.Nat.{_+_, _≤_}
 use native.Mathlib.Omega.{arith}
 use lib.ListN.{length}
-use Rattle.rules.specs.Program.{numeral}
+use Rattle.rules.specs.Pictures.{numeral}
 use Rattle.netpbm.proofs.Digits.{digit, length-digits, most-length}
 use Rattle.netpbm.proofs.decimal.number_length.Statement.{statement}
 use Rattle.netpbm.proofs.decimal.number_length.Tie as tie

@@ -5,7 +5,7 @@ use mathlib.Core.List.{List}
 use Prim.Native.Nat.{ℕ, _/_}
 use native.Mathlib.Omega.{arith}
 use borrow.Author.Needs.{needs}
-use Rattle.rules.specs.Program.{numeral}
+use Rattle.rules.specs.Pictures.{numeral}
 use Rattle.netpbm.specs.Appending.{Appends}
 use Rattle.netpbm.specs.Places.{Place}
 use Rattle.netpbm.proofs.Written.{then, renamed}

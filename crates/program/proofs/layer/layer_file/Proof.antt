@@ -1,7 +1,7 @@
 -- 15, 16, then the flat or the solid drawing: the first check that holds is returned.
 use mathlib.Core.Path.{_≡_, sym, ap, _∙_}
 use mathlib.Core.Bool.{true, false}
-use Rattle.rules.specs.Program.{recordOk, tooLarge}
+use Rattle.program_rules.specs.Program.{recordOk, tooLarge}
 use Rattle.picture.specs.Shapes.{gridIn}
 use Rattle.netpbm.proofs.FileLaws.{told-false, told-true}
 use Rattle.program.proofs.Inputs.{long-enough, no-record, solid-too-large, solid-sizes, flat-input, solid-input}

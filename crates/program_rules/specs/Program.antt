@@ -4,10 +4,10 @@ use mathlib.Core.List.{List, [], _∷_, _++_}
 use Prim.Native.Nat.{ℕ, suc, _+_, _*_}
 use lib.Dec.{eqb, ltb, leb}
 use lib.ListN.{length, getD, drop}
 use Rattle.rules.specs.Values.{pick, firstFault, when}
 use Rattle.rules.specs.Tapes.{clauseLimit, placeOf, readTape, word, signed4}
 use Rattle.rules.specs.Drawings.{Grid, solid, gridFault, walked}
-use Rattle.rules.specs.Pictures.{digitsFrom, picture, bitmapFile, heightFile}
+use Rattle.rules.specs.Pictures.{numeral, picture, bitmapFile, heightFile}
 
 -- "It reads a grid record, then the tape: `47 52`, width, height, depth (2 bytes each), three origins, three steps (4
 -- bytes signed each). Depth 0 here means flat; the third origin is then z and the third step is unread."
@@ -66,10 +66,6 @@ programPlace s = placeOf (programFault s) (readTape (tapeAfter s) .place)
 unfoldable pub fileOf : Grid → List ℕ → List ℕ
 fileOf g h =
     pick (solid g) (heightFile (g .width) (g .height) h) (bitmapFile (g .width) (g .height) (picture false g h))
-
--- A number in decimal; 20 digits are enough for any number of 64 bits.
-abbrev pub numeral : ℕ → List ℕ
-numeral v = digitsFrom 20 v
 
 -- "the count as a decimal line to descriptor 2".
 abbrev pub countLine : ℕ → List ℕ

@@ -10,26 +10,26 @@ use lib.Dec.{eqb, leb}
 use lib.ListN.{length, getD, set, take, drop, length-drop}
 use lib.Seq.{length-take-le, take-all}
 use borrow.Author.Tests.{leb-true, leb-false, eqb-true, le-ltb, le-leb, ne-eqb}
 use Rattle.rules.specs.Values.{pick, smaller, larger, sum, difference, product, square, unaryValue, binaryValue}
 use Rattle.rules.specs.Values.{valueOf, sumR, differenceR, productR, negR, holdsZero, absoluteR, squareR, rootR}
 use Rattle.rules.specs.Values.{smallerR, largerR, unaryRange, multipliedR, binaryRange, rangeOf, sideBelow}
 use Rattle.rules.specs.Values.{sideAbove}
 use Rattle.rules.specs.Values.{choiceOf}
 use Rattle.rules.specs.Tapes.{clauseLimit, Got, bad, word, two, four, runFrom, valueAt, material, rangeFrom}
 use Rattle.rules.specs.Tapes.{rangeOver, choicesFrom, reads, isIn, without, onClause, shortFrom, lastOut}
 use Rattle.rules.specs.Tapes.{shortened, badSlot, badUnused, badConstant, badRead, clauseFault, faultFrom}
 use Rattle.rules.specs.Tapes.{readClauses, countsOk, headCounts, edition, signed4, rawIn, rawsFrom, headOk, readTape}
 use Rattle.rules.specs.Drawings.{Grid, solid, drawn, sampleAt, gridFault, lesser, boxOf, raiseRow, raiseRows}
 use Rattle.rules.specs.Drawings.{filled, rowHigh, rowsHigh, hidden, alongX, alongY, alongZ, children, fold}
 use Rattle.rules.specs.Drawings.{onSample, visit, sides, walked}
 use Rattle.rules.specs.Pictures.{byteOf, rowBytes, bitsOf, picture, digitsFrom, head, cleanRow, cleanRows}
 use Rattle.rules.specs.Pictures.{bitmapFile, highFirst, heightFile}
-use Rattle.rules.specs.Program.{recordLength, gridRecord, tapeAfter, longestInput, inputLimit, recordOk, tooLarge}
-use Rattle.rules.specs.Program.{programLines, programFault, programPlace, fileOf, Output, programOf}
+use Rattle.program_rules.specs.Program.{recordLength, gridRecord, tapeAfter, longestInput, inputLimit, recordOk, tooLarge}
+use Rattle.program_rules.specs.Program.{programLines, programFault, programPlace, fileOf, Output, programOf}
 use Rattle.rules.proofs.Lines.{each-line}
 use Rattle.rules.proofs.Reading.{Counts, counts-hold, head-counts-hold}
 use Rattle.rules.proofs.Tiles.{demand-3}
-use Rattle.rules.proofs.Example.{gridOf, threeBytes, threeFlat, threeSolid}
+use Rattle.worked_example.proofs.Example.{gridOf, threeBytes, threeFlat, threeSolid}
 
 -- A grid record's bytes, and one with nine fields that differ, read back.
 abbrev pub gridBytes : Grid → List ℕ

@@ -1,0 +1,2 @@
+-- The program, to be read against the scope paper.
+pub mod Program
