@@ -1,4 +1,2 @@
 -- What the functions of the flat drawing by tiles are held to, besides the walk's.
-pub mod Sides
-pub mod Rows
 pub mod Rects

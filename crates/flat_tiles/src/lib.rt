@@ -1,5 +1,2 @@
-// The flat drawing by tiles: regions of side 64, 8 and 1.
-pub mod eights;
-pub mod look;
-pub mod samples;
+// The flat drawing by tiles: regions of side 64, those of a rectangle or all.
 pub mod tiles;

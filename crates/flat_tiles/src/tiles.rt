@@ -1,6 +1,6 @@
 // Side 64: the tiles of a rectangle, and the whole drawing.
-use crate::eights::eight_rows;
-use crate::look::look;
+use flat_blocks::eights::eight_rows;
+use flat_blocks::look::look;
 use picture::bits::clear;
 use picture::grid::Grid;
 use shortening::expand::whole_places;
@@ -16,8 +16,8 @@ ghost use Rattle.rules.specs.Drawings.{flatBound, region, alongX, alongY};
 ghost use Rattle.picture.specs.Parts.{Blank, Apart};
 ghost use Rattle.walk.specs.Cells.{Ready, InGrid};
 ghost use Rattle.walk.specs.Walks.{Sound, Level, MarksFit, Visits, Folds, Walked};
+ghost use Rattle.flat_blocks.specs.Sides.{below64};
 ghost use Rattle.flat_tiles.specs.Rects.{RectIn, tilesEnd};
-ghost use Rattle.flat_tiles.specs.Sides.{below64};
 
 // At most 4,161 runs: the tile, 64 of side 8 and 4,096 samples.
 fn visit_tile(

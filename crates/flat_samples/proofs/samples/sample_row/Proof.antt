@@ -1,0 +1,95 @@
+-- The row's byte, stored.
+use mathlib.Core.Bool.{false}
+use mathlib.Core.List.{[]}
+use Prim.Native.Nat.{_-_, _*_}
+use native.Mathlib.Omega.{arith}
+use lib.ListN.{length}
+use Rattle.rules.specs.Drawings.{alongX}
+use Rattle.picture.proofs.PartLaws.{stored-apart}
+use Rattle.walk.specs.Walks.{Folds}
+use Rattle.walk.proofs.LookLaws.{sound-length}
+use Rattle.flat_samples.proofs.CellRows.{pixels-in}
+use Rattle.flat_samples.proofs.SampleRows.{samples-spare, row-folds, row-stored}
+use borrow.Author.Needs.{needs}
+use Rattle.flat_samples.proofs.samples.sample_row.Statement.{statement}
+use Rattle.flat_samples.proofs.samples.sample_row.Tie as tie
+
+-- The places: the start, once the byte is made, and that, once it is stored.
+abbrev start : tie.After-row-byte → tie.Start
+start c = c .before .before .before .before
+
+abbrev with-byte : tie.After-store-row → tie.After-row-byte
+with-byte c = c .before .before .before .before
+
+abbrev stored : tie.After-struct-known3 → tie.After-store-row
+stored c = c .before .before .before
+
+row-byte-requires : tie.Need-row-byte-requires
+row-byte-requires c κs =
+    let p = c .before .before .before .pre in
+    let q = p .1 .1 .1 in
+    (p .0, (p .1 .0 .fault, (p .1 .1 .0, ((q .0 .0, q .0 .2), (q .1 .0, q .1 .1 .0)))))
+
+cast-store-row : tie.Need-cast-store-row
+cast-store-row c = search needs
+
+cast-store-row-2 : tie.Need-cast-store-row-2
+cast-store-row-2 c = search needs
+
+store-row-requires : tie.Need-store-row-requires
+store-row-requires c κs =
+    let b = c .before .before .before in
+    let s = start b .pre .0 in
+    let p = start b .pre .1 in
+    let k = p .1 .0 in (
+      pixels-in _ _ _ (p .0) (p .1 .1 .0 .1) (omega arith) (omega (arith, k .xs)) (omega (arith, k .ys, p .1 .1 .0 .2)),
+      samples-spare k _ _ _ (b .row-byte .ensures .0 (s .slots) (s .accepted)),
+    )
+
+sub-result : tie.Need-sub-result
+sub-result c = omega (arith, start (with-byte (stored c)) .pre .1 .1 .0 .xs)
+
+cast-result : tie.Need-cast-result
+cast-result c = search needs
+
+-- What the row draws and counts.
+drawn : (c : tie.After-struct-known3)
+    → let a = start (with-byte (stored c)) .args in
+    Folds false 8 (a .code .now) (a .grid) [] (alongX 8 (a .parent .x) (a .y) 0 1 (a .parent .xend)) (a .picture .now)
+    (stored c .store-row .last .0) ((a .parent .xend - a .parent .x) * length (a .code .now))
+drawn c =
+    let u = stored c in
+    let b = with-byte u in
+    let p = start b .pre .1 .1 in
+    row-folds (p .0) (p .1 .0 .0) _ _ _ (p .1 .0 .2) (b .row-byte .ensures .0)
+    (row-stored (p .0) (p .1 .0 .0) _ _ (p .1 .0 .1) (p .1 .1 .1 .1) (u .store-row .ensures))
+
+mul-result : tie.Need-mul-result
+mul-result c =
+    let s = start (with-byte (stored c)) in
+    omega (arith, sound-length (s .pre .0), drawn c .bound)
+
+same-length : tie.Need-same-length
+same-length c = search needs
+
+returns : tie.Need-returns
+returns c =
+    let u = stored c in
+    let p = start (with-byte u) .pre .1 .1 in (
+      drawn c,
+      (with-byte u .row-byte .ensures .1, stored-apart (p .1 .0 .1) (omega (arith, p .0 .xs)) (u .store-row .ensures)),
+    )
+
+pub sample-row-spec : {M : Type 1} → statement M
+sample-row-spec =
+    tie.close
+    (tie.spec
+    row-byte-requires
+    cast-store-row
+    cast-store-row-2
+    store-row-requires
+    sub-result
+    cast-result
+    mul-result
+    same-length
+    returns)
