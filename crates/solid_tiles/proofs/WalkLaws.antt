@@ -14,7 +14,7 @@ use Rattle.walk.specs.Walks.{Folds, Walked}
 use Rattle.walk.specs.declared.cell.Cell.{Cell}
 use Rattle.walk.proofs.CellLaws.{cell-layers}
 use Rattle.walk.proofs.WalkLaws.{walk-shown}
-use Rattle.solid_tiles.specs.Sides.{below64}
+use Rattle.solid_blocks.specs.Sides.{below64}
 
 module _ {ws : List ℕ} {grid : Grid} {cell : Cell} (k : CellOf (grid .depth) grid whole cell)
     (e : gridFault true (gridIn grid true) ≡ 0) {most c : ℕ} {b b′ : List ℕ}

@@ -1,9 +1,9 @@
 // Side 64: the tiles of the grid, and the whole drawing.
-use crate::look::look;
-use crate::sixteens::sixteen_layers;
 use picture::grid::Grid;
 use picture::heights::clear;
 use shortening::expand::whole_places;
+use solid_blocks::look::look;
+use solid_blocks::sixteens::sixteen_layers;
 use walk::cell::Cell;
 use walk::cell::cell_at;
 use walk::look::Seen;
@@ -14,7 +14,7 @@ ghost use lib.ListN.{length};
 ghost use Rattle.rules.specs.Drawings.{sizeLimit, solidBound, region, alongX, alongY, alongZ};
 ghost use Rattle.walk.specs.Cells.{Ready, InGrid, CellOk};
 ghost use Rattle.walk.specs.Walks.{Sound, Level, MarksFit, Visits, Folds, Walked};
-ghost use Rattle.solid_tiles.specs.Sides.{below64};
+ghost use Rattle.solid_blocks.specs.Sides.{below64};
 
 // At most 266,305 runs: the tile, 64 of side 16, 4,096 of side 4 and 262,144 samples.
 fn visit_tile(

@@ -9,7 +9,7 @@ use Rattle.walk.proofs.CellLaws.{small}
 use Rattle.walk.proofs.LookLaws.{sound-length}
 use Rattle.walk.proofs.Loops.{AtLayer, layers-begin, layers-again, layers-done}
 use Rattle.walk.proofs.Places.{down-in, down-sum, ready-again}
-use Rattle.solid_tiles.specs.Sides.{below64}
+use Rattle.solid_blocks.specs.Sides.{below64}
 use Rattle.solid_tiles.proofs.tiles.tile_layers.Statement.{statement}
 use Rattle.solid_tiles.proofs.tiles.tile_layers.Tie as tie
 

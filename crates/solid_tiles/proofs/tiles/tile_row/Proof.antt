@@ -9,7 +9,7 @@ use Rattle.walk.proofs.CellLaws.{small, child-in}
 use Rattle.walk.proofs.LookLaws.{sound-length}
 use Rattle.walk.proofs.Loops.{AtColumn, row-begins, row-again, row-done}
 use Rattle.walk.proofs.Places.{up-sum, ready-again}
-use Rattle.solid_tiles.specs.Sides.{below64}
+use Rattle.solid_blocks.specs.Sides.{below64}
 use Rattle.solid_tiles.proofs.tiles.tile_row.Statement.{statement}
 use Rattle.solid_tiles.proofs.tiles.tile_row.Tie as tie
 

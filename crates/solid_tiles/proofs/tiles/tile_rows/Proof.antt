@@ -9,7 +9,7 @@ use Rattle.walk.proofs.CellLaws.{small}
 use Rattle.walk.proofs.LookLaws.{sound-length}
 use Rattle.walk.proofs.Loops.{AtRow, rows-begin, rows-again, rows-done}
 use Rattle.walk.proofs.Places.{up-sum, ready-again}
-use Rattle.solid_tiles.specs.Sides.{below64}
+use Rattle.solid_blocks.specs.Sides.{below64}
 use Rattle.solid_tiles.proofs.tiles.tile_rows.Statement.{statement}
 use Rattle.solid_tiles.proofs.tiles.tile_rows.Tie as tie
 

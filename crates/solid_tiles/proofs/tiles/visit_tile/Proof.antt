@@ -10,7 +10,7 @@ use Rattle.walk.specs.Walks.{Opened}
 use Rattle.walk.proofs.CellLaws.{small}
 use Rattle.walk.proofs.LookLaws.{sound-length, done-of, open-of, done-visits, open-level, open-fewer, open-layers}
 use Rattle.walk.proofs.Places.{ready-again}
-use Rattle.solid_tiles.specs.Sides.{below16}
+use Rattle.solid_blocks.specs.Sides.{below16}
 use borrow.Author.Needs.{needs}
 use Rattle.solid_tiles.proofs.tiles.visit_tile.Statement.{statement}
 use Rattle.solid_tiles.proofs.tiles.visit_tile.Tie as tie

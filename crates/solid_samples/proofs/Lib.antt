@@ -1,0 +1,3 @@
+-- Laws of a solid's picture at a region: its rows (CellRows), and one sample (SampleLaws).
+pub mod CellRows
+pub mod SampleLaws

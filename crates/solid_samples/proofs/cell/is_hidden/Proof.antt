@@ -1,0 +1,72 @@
+-- The rows of a cell.
+use mathlib.Core.Bool.{true}
+use native.Mathlib.Omega.{arith}
+use Rattle.walk.proofs.CellLaws.{small}
+use Rattle.solid_samples.proofs.CellRows.{cell-index, cell-rows, cell-hidden}
+use borrow.Author.Needs.{needs}
+use Rattle.solid_samples.proofs.cell.is_hidden.Statement.{statement}
+use Rattle.solid_samples.proofs.cell.is_hidden.Tie as tie
+
+-- The places: the start, from where the index is made and from the call.
+abbrev start : tie.After-struct-known3 → tie.Start
+start c = c .before .before .before .before
+
+abbrev at-call : tie.After-struct-known7 → tie.Start
+at-call c = start (c .before .before .before .before)
+
+sub-rows : tie.Need-sub-rows
+sub-rows c = search needs
+
+cast-rows : tie.Need-cast-rows
+cast-rows c = search needs
+
+mul-from : tie.Need-mul-from
+mul-from c = omega (arith, cell-index _ _ (start c .pre .1) (start c .pre .0 .fault))
+
+add-from : tie.Need-add-from
+add-from c = let s = start (c .before) in omega (arith, cell-index _ _ (s .pre .1) (s .pre .0 .fault))
+
+cast-from : tie.Need-cast-from
+cast-from c = let s = start (c .before) in omega (arith, cell-index _ _ (s .pre .1) (s .pre .0 .fault))
+
+sub-wide : tie.Need-sub-wide
+sub-wide c = search needs
+
+cast-wide : tie.Need-cast-wide
+cast-wide c = search needs
+
+cast-top : tie.Need-cast-top
+cast-top c =
+    let s = start (c .before .before .before) in
+    let d = small true _ (s .pre .0 .fault) in
+    let z = s .pre .1 .zs in
+    omega arith
+
+cast-rows-high : tie.Need-cast-rows-high
+cast-rows-high c = search needs
+
+rows-high-requires : tie.Need-rows-high-requires
+rows-high-requires c κs =
+    let s = at-call c in
+    cell-rows _ _ (s .pre .1) _ (s .pre .0)
+
+returns : tie.Need-returns
+returns c =
+    let s = at-call (c .before) in
+    cell-hidden _ _ (s .pre .1) (s .pre .0 .fault) _ _ (c .rows-high .ensures)
+
+pub is-hidden-spec : {M : Type 1} → statement M
+is-hidden-spec =
+    tie.close
+    (tie.spec
+    sub-rows
+    cast-rows
+    mul-from
+    add-from
+    cast-from
+    sub-wide
+    cast-wide
+    cast-top
+    cast-rows-high
+    rows-high-requires
+    returns)
