@@ -23,8 +23,8 @@ use Rattle.rules.proofs.SlopePixels.{three-same, three-other}
 use Rattle.code.specs.Runs.{SampleOk}
 use Rattle.picture.specs.Shapes.{gridIn}
 use Rattle.picture.specs.declared.grid.Grid.{Grid}
+use Rattle.slope_values.specs.declared.sloped.Sloped.{Sloped}
 use Rattle.slopes.specs.Shapes.{slopesIn, Sloping}
-use Rattle.slopes.specs.declared.sloped.Sloped.{Sloped}
 use Rattle.picture.proofs.Grids.{accepted}
 use Rattle.picture.proofs.GridWords.{at-read}
 use Rattle.walk.proofs.CellLaws.{small, kind}

@@ -1,5 +1,3 @@
-// Slopes of a tape at a sample: a value and its slope on each axis in a slot, by forward differentiation.
-pub mod axis;
+// Slopes of a tape at a sample: a run of words with a value and its slope on each axis in a slot.
 pub mod run;
-pub mod sloped;
 pub mod slots;
