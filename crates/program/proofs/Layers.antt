@@ -17,6 +17,7 @@ use Rattle.rules.proofs.Lines.{each-line}
 use Rattle.picture.specs.Shapes.{gridIn}
 use Rattle.picture.specs.declared.grid.Grid.{Grid}
 use Rattle.picture.proofs.Grids.{accepted}
+use Rattle.refusals.specs.Lines.{lengthFault}
 use Rattle.netpbm.proofs.FileLaws.{Sides, short-head, length-bitmap, length-heights}
 use Rattle.layers.specs.declared.Answer.{Answer}
 use Rattle.layers.specs.Says as Calls
@@ -62,7 +63,7 @@ tile-fault : (t : Bool) (s : List ℕ) (d : Grid) (n m : ℕ) → Lent t d n m
 tile-fault t s d n m l =
     let g = gridIn d t in
     ap (λ b. firstFault (Calls.drawLines t s g n ++ (when b 13 ∷ []))) (le-ltb m D.workLimit (l .work))
-    ∙ last-zero (readTape s .number) (D.gridFault t g) (Calls.lengthFault t g n)
+    ∙ last-zero (readTape s .number) (D.gridFault t g) (lengthFault t g n)
     (λ e. ap (λ b. when (not b) 12) (eq-eqb n (pictureSize t g) (l .pixels e)))
 
 -- The file of a picture, and of heights.
