@@ -25,3 +25,11 @@ module _ (c : Cell) {x y n : ℕ} (same : regionIn c ≡ region x y 0 n) where
   pub side-apart : {w : ℕ} {b b′ : List ℕ} → Apart w (c .x) (c .x + c .side) (c .y) (c .y + c .side) b b′
       → Apart w x (x + n) y (y + n) b b′
   side-apart a = cell-apart (rw (ap (λ (q : Region). q .long) same) at a)
+
+-- By its side as a number.
+pub same-blank : {w x xend y yend : ℕ} {b b′ : List ℕ} → b′ ≡ b → Blank w x xend y yend b → Blank w x xend y yend b′
+same-blank e k = rw e k
+
+pub looked-apart : {w x y m n : ℕ} {b b′ : List ℕ} → m ≡ n → Apart w x (x + m) y (y + m) b b′
+    → Apart w x (x + n) y (y + n) b b′
+looked-apart e a = rw e at a

@@ -43,24 +43,21 @@ fn fill(grid: Grid, c: Cell, picture: &mut [u8])
 pub fn look(
     whole: &[u64],
     code: &[u64],
-    places: &[u16],
     grid: Grid,
     c: Cell,
     picture: &mut [u8],
     work: &mut [u8],
     base: usize,
     next: &mut [u64],
-    nextplaces: &mut [u16],
 ) -> Seen
-    requires { ⌜ Level (now whole) (now code) (now places) ⌝ }
+    requires { ⌜ Level (now whole) (now code) ⌝ }
     requires { ⌜ Ready false grid (now picture) ⌝ }
     requires { ⌜ CellOk 1 grid c ⌝ }
     requires { ⌜ c .x % 8 ≡ 0 ⌝ }
     requires { ⌜ (length (now whole) ≤ base) × (base + markRoom (length (now whole)) ≤ length (now work)) ⌝ }
-    requires { ⌜ (length (now whole) ≤ length (now next)) × (length (now nextplaces) ≡ length (now next)) ⌝ }
-    ensures { λ r. ⌜ Looked false (now (whole .entry)) (now (code .entry)) (now (places .entry)) grid (regionIn c)
-        (now (picture .entry)) (now (picture .exit)) (now (work .exit)) (now (next .exit))
-        (now (nextplaces .exit)) r ⌝ }
+    requires { ⌜ length (now whole) ≤ length (now next) ⌝ }
+    ensures { λ r. ⌜ Looked false (now (whole .entry)) (now (code .entry)) grid (regionIn c)
+        (now (picture .entry)) (now (picture .exit)) base (now (work .exit)) (now (next .exit)) r ⌝ }
     ensures { λ _. ⌜ Apart (grid .width) (c .x) (c .x + c .side) (c .y) (c .y + c .side) (now (picture .entry))
         (now (picture .exit)) ⌝ }
 {
@@ -72,7 +69,7 @@ pub fn look(
         }
         Verdict::Empty => Seen::Done(code.len() as u64),
         Verdict::Mixed => {
-            let start = cut(whole, code, places, work, base, next, nextplaces);
+            let start = cut(whole, code, work, base, next);
             Seen::Open(start)
         }
     }

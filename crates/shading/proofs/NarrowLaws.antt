@@ -85,13 +85,13 @@ module _ (grid : Grid) (c : Block) (l : Layers) (e : gridFault true (gridIn grid
         zs = span-holds (s .zs (kind true grid e)) (l .from) (l .end) z p q (m .in-grid);
       })
 
-  module _ {whole ws qs hs hs′ hs″ next ps : List ℕ} {base start : ℕ} {box : Box} {r : Range}
-      (b : BlockBox grid c l box) (v : Bounded ws box hs hs′ r) (s : Cut whole ws qs hs′ base hs″ next ps start) where
+  module _ {whole ws hs hs′ hs″ next : List ℕ} {base start : ℕ} {box : Box} {r : Range}
+      (b : BlockBox grid c l box) (v : Bounded ws box hs hs′ r) (s : Cut whole ws hs′ base hs″ next start) where
     short : (n : ℕ) → Accepted (tapeIn n ws) → tapeIn n (drop start next) ≡ shortened (tapeIn n ws) (boxAt grid c l)
     short n a = short-tape n _ (v .choices n (fit-of a)) s
         ∙ ap (λ (q : Box). shortened (tapeIn n ws) q) (b .same)
 
-    pub narrowed : Narrowed whole ws grid c l next ps start
+    pub narrowed : Narrowed whole ws grid c l next start
     narrowed =
         record {
           within = s .within;
@@ -104,12 +104,11 @@ module _ (grid : Grid) (c : Block) (l : Layers) (e : gridFault true (gridIn grid
         }
 
 -- The words of a block, as the code lends them: of its level, and shading with them is shading with the words before.
-module _ {whole ws : List ℕ} {grid : Grid} {c : Block} {l : Layers} {next ps : List ℕ} {start : ℕ}
-    (n : Narrowed whole ws grid c l next ps start) where
-  pub narrow-level : {qs : List ℕ} → Level whole ws qs
-      → Level whole (take (length next - start) (drop start next)) (take (length ps - start) (drop start ps))
+module _ {whole ws : List ℕ} {grid : Grid} {c : Block} {l : Layers} {next : List ℕ} {start : ℕ}
+    (n : Narrowed whole ws grid c l next start) where
+  pub narrow-level : Level whole ws → Level whole (take (length next - start) (drop start next))
   narrow-level v =
-      rw (lent-words start next, lent-words start ps)
+      rw (lent-words start next)
       (record {
         sound = record {
           slots = v .sound .slots;

@@ -38,14 +38,14 @@ pub record BlockBox (grid : Grid) (c : Block) (l : Layers) (b : Box) : Type 0 wh
 
 -- From start on stand words with the slopes of the words ws at every sample of the block c in the layers l; kept of the
 -- whole tape, as those are, and accepted as they are.
-pub record Narrowed (whole ws : List ℕ) (grid : Grid) (c : Block) (l : Layers) (next places : List ℕ) (start : ℕ)
+pub record Narrowed (whole ws : List ℕ) (grid : Grid) (c : Block) (l : Layers) (next : List ℕ) (start : ℕ)
     : Type 0 where
   pub within : start ≤ length next
   pub accepted : (n : ℕ) → Accepted (tapeIn n ws) → Accepted (tapeIn n (drop start next))
   pub same : (n : ℕ) → Accepted (tapeIn n ws) → (i j k : ℕ) → Within c i j → l .from ≤ k → k < l .end
       → slopesAt (tapeIn n (drop start next)) (sampleAt (gridIn grid true) i j k)
       ≡ slopesAt (tapeIn n ws) (sampleAt (gridIn grid true) i j k)
-  pub kept : Kept whole (drop start next) (drop start places)
+  pub kept : Kept whole (drop start next)
 
 -- All of the list, by the slopes of the words' tape.
 pub record Shaded (ws : List ℕ) (grid : Grid) (h : List ℕ) (b′ : List ℤ) : Type 0 where

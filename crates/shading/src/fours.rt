@@ -19,7 +19,6 @@ ghost use Rattle.shading.specs.Narrow.{LayersIn};
 fn visit_four(
     whole: &[u64],
     code: &[u64],
-    places: &[u16],
     grid: Grid,
     block: Block,
     window: Layers,
@@ -27,17 +26,16 @@ fn visit_four(
     slopes: &mut [i32],
     work: &mut [u8],
     second: &mut [u64],
-    secondplaces: &mut [u16],
     values: &mut [i32; SLOT_LIMIT],
     xs: &mut [i32; SLOT_LIMIT],
     ys: &mut [i32; SLOT_LIMIT],
     zs: &mut [i32; SLOT_LIMIT],
 )
-    requires { ⌜ Level (now whole) (now code) (now places) ⌝ }
+    requires { ⌜ Level (now whole) (now code) ⌝ }
     requires { ⌜ Fits grid (now picture) (now slopes) ⌝ }
     requires { ⌜ BlockIn grid block ⌝ }
     requires { ⌜ MarksFit 2 (now whole) (now work)
-        × (length (now whole) ≤ length (now second)) × (length (now secondplaces) ≡ length (now second)) ⌝ }
+        × (length (now whole) ≤ length (now second)) ⌝ }
     requires { ⌜ LayersIn grid window ⌝ }
     requires { ⌜ Sized (slotsOf (now values) (now xs) (now ys) (now zs)) ⌝ }
     ensures { λ _. ⌜ Shading (now (code .entry)) grid (now (picture .entry)) window block block
@@ -49,18 +47,7 @@ fn visit_four(
         return;
     }
     let base = whole.len() + mark_room(whole.len());
-    let start = narrow(
-        whole,
-        code,
-        places,
-        grid,
-        block,
-        tight,
-        work,
-        base,
-        second,
-        secondplaces,
-    );
+    let start = narrow(whole, code, grid, block, tight, work, base, second);
     let short = &second[start..];
     shade_rows(
         short,
@@ -80,7 +67,6 @@ fn visit_four(
 fn four_row(
     whole: &[u64],
     code: &[u64],
-    places: &[u16],
     grid: Grid,
     row: Block,
     window: Layers,
@@ -88,17 +74,16 @@ fn four_row(
     slopes: &mut [i32],
     work: &mut [u8],
     second: &mut [u64],
-    secondplaces: &mut [u16],
     values: &mut [i32; SLOT_LIMIT],
     xs: &mut [i32; SLOT_LIMIT],
     ys: &mut [i32; SLOT_LIMIT],
     zs: &mut [i32; SLOT_LIMIT],
 )
-    requires { ⌜ Level (now whole) (now code) (now places) ⌝ }
+    requires { ⌜ Level (now whole) (now code) ⌝ }
     requires { ⌜ Fits grid (now picture) (now slopes) ⌝ }
     requires { ⌜ BlockIn grid row ⌝ }
     requires { ⌜ MarksFit 2 (now whole) (now work)
-        × (length (now whole) ≤ length (now second)) × (length (now secondplaces) ≡ length (now second)) ⌝ }
+        × (length (now whole) ≤ length (now second)) ⌝ }
     requires { ⌜ LayersIn grid window ⌝ }
     requires { ⌜ Sized (slotsOf (now values) (now xs) (now ys) (now zs)) ⌝ }
     ensures { λ _. ⌜ Shading (now (code .entry)) grid (now (picture .entry)) window row row
@@ -117,7 +102,6 @@ fn four_row(
         visit_four(
             whole,
             code,
-            places,
             grid,
             block,
             window,
@@ -125,7 +109,6 @@ fn four_row(
             slopes,
             work,
             second,
-            secondplaces,
             values,
             xs,
             ys,
@@ -138,7 +121,6 @@ fn four_row(
 pub fn four_rows(
     whole: &[u64],
     code: &[u64],
-    places: &[u16],
     grid: Grid,
     block: Block,
     window: Layers,
@@ -146,17 +128,16 @@ pub fn four_rows(
     slopes: &mut [i32],
     work: &mut [u8],
     second: &mut [u64],
-    secondplaces: &mut [u16],
     values: &mut [i32; SLOT_LIMIT],
     xs: &mut [i32; SLOT_LIMIT],
     ys: &mut [i32; SLOT_LIMIT],
     zs: &mut [i32; SLOT_LIMIT],
 )
-    requires { ⌜ Level (now whole) (now code) (now places) ⌝ }
+    requires { ⌜ Level (now whole) (now code) ⌝ }
     requires { ⌜ Fits grid (now picture) (now slopes) ⌝ }
     requires { ⌜ BlockIn grid block ⌝ }
     requires { ⌜ MarksFit 2 (now whole) (now work)
-        × (length (now whole) ≤ length (now second)) × (length (now secondplaces) ≡ length (now second)) ⌝ }
+        × (length (now whole) ≤ length (now second)) ⌝ }
     requires { ⌜ LayersIn grid window ⌝ }
     requires { ⌜ Sized (slotsOf (now values) (now xs) (now ys) (now zs)) ⌝ }
     ensures { λ _. ⌜ Shading (now (code .entry)) grid (now (picture .entry)) window block block
@@ -175,7 +156,6 @@ pub fn four_rows(
         four_row(
             whole,
             code,
-            places,
             grid,
             row,
             window,
@@ -183,7 +163,6 @@ pub fn four_rows(
             slopes,
             work,
             second,
-            secondplaces,
             values,
             xs,
             ys,

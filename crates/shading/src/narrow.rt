@@ -31,28 +31,26 @@ fn bounds(grid: Grid, block: Block, layers: Layers) -> Bounds
     }
 }
 
-// Returned is where the block's words and places start.
+// Returned is where the block's words start.
 pub fn narrow(
     whole: &[u64],
     code: &[u64],
-    places: &[u16],
     grid: Grid,
     block: Block,
     layers: Layers,
     work: &mut [u8],
     base: usize,
     next: &mut [u64],
-    nextplaces: &mut [u16],
 ) -> usize
-    requires { ⌜ Level (now whole) (now code) (now places) ⌝ }
+    requires { ⌜ Level (now whole) (now code) ⌝ }
     requires { ⌜ gridFault true (gridIn grid true) ≡ 0 ⌝ }
     requires { ⌜ BlockIn grid block ⌝ }
     requires { ⌜ LayersIn grid layers ⌝ }
     requires { ⌜ (length (now whole) ≤ base) × (base + markRoom (length (now whole)) ≤ length (now work)) ⌝ }
-    requires { ⌜ (length (now whole) ≤ length (now next)) × (length (now nextplaces) ≡ length (now next)) ⌝ }
+    requires { ⌜ length (now whole) ≤ length (now next) ⌝ }
     ensures { λ r. ⌜ Narrowed (now (whole .entry)) (now (code .entry)) grid block layers
-        (now (next .exit)) (now (nextplaces .exit)) r ⌝ }
+        (now (next .exit)) r ⌝ }
 {
     run_ranges(code, bounds(grid, block, layers), work);
-    cut(whole, code, places, work, base, next, nextplaces)
+    cut(whole, code, work, base, next)
 }

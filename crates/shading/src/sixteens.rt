@@ -3,7 +3,6 @@
 use crate::fours::four_rows;
 use crate::narrow::narrow;
 use picture::grid::Grid;
-use shortening::expand::whole_places;
 use sloped_pixels::block::Block;
 use sloped_pixels::block::Layers;
 use sloped_pixels::block::seen_in;
@@ -14,14 +13,13 @@ ghost use mathlib.Core.Path.{_≡_};
 ghost use Prim.Native.Nat.{_≤_, _<_};
 ghost use lib.ListN.{length};
 ghost use Rattle.slopes.specs.Shapes.{slotsOf, Sized};
-ghost use Rattle.walk.specs.Walks.{Sound, Level, MarksFit};
+ghost use Rattle.walk.specs.Walks.{Level, MarksFit};
 ghost use Rattle.sloped_pixels.specs.Shades.{Fits, allOf, BlockIn, Shading};
 ghost use Rattle.shading.specs.Narrow.{LayersIn, Shaded};
 
 // The pixels of a block whose heights lie in a window.
 fn shade_window(
     whole: &[u64],
-    places: &[u16],
     grid: Grid,
     block: Block,
     window: Layers,
@@ -29,44 +27,29 @@ fn shade_window(
     slopes: &mut [i32],
     work: &mut [u8],
     first: &mut [u64],
-    firstplaces: &mut [u16],
     second: &mut [u64],
-    secondplaces: &mut [u16],
     values: &mut [i32; SLOT_LIMIT],
     xs: &mut [i32; SLOT_LIMIT],
     ys: &mut [i32; SLOT_LIMIT],
     zs: &mut [i32; SLOT_LIMIT],
 )
-    requires { ⌜ Level (now whole) (now whole) (now places) ⌝ }
+    requires { ⌜ Level (now whole) (now whole) ⌝ }
     requires { ⌜ Fits grid (now picture) (now slopes) ⌝ }
     requires { ⌜ BlockIn grid block ⌝ }
     requires { ⌜ MarksFit 2 (now whole) (now work)
-        × (length (now whole) ≤ length (now first)) × (length (now firstplaces) ≡ length (now first))
-        × (length (now whole) ≤ length (now second)) × (length (now secondplaces) ≡ length (now second)) ⌝ }
+        × (length (now whole) ≤ length (now first))
+        × (length (now whole) ≤ length (now second)) ⌝ }
     requires { ⌜ LayersIn grid window ⌝ }
     requires { ⌜ Sized (slotsOf (now values) (now xs) (now ys) (now zs)) ⌝ }
     ensures { λ _. ⌜ Shading (now (whole .entry)) grid (now (picture .entry)) window block block
         (now (slopes .entry)) (now (slopes .exit)) ⌝ }
     ensures { λ _. ⌜ Sized (slotsOf (now (values .exit)) (now (xs .exit)) (now (ys .exit)) (now (zs .exit))) ⌝ }
 {
-    let start = narrow(
-        whole,
-        whole,
-        places,
-        grid,
-        block,
-        window,
-        work,
-        whole.len(),
-        first,
-        firstplaces,
-    );
+    let start = narrow(whole, whole, grid, block, window, work, whole.len(), first);
     let short = &first[start..];
-    let shortplaces = &firstplaces[start..];
     four_rows(
         whole,
         short,
-        shortplaces,
         grid,
         block,
         window,
@@ -74,7 +57,6 @@ fn shade_window(
         slopes,
         work,
         second,
-        secondplaces,
         values,
         xs,
         ys,
@@ -97,27 +79,24 @@ fn upper_from(layers: Layers) -> u32
 // Windows of at most 32 layers, from the greatest height down: heights that no pixel has are passed over.
 fn visit_sixteen(
     whole: &[u64],
-    places: &[u16],
     grid: Grid,
     block: Block,
     picture: &[u16],
     slopes: &mut [i32],
     work: &mut [u8],
     first: &mut [u64],
-    firstplaces: &mut [u16],
     second: &mut [u64],
-    secondplaces: &mut [u16],
     values: &mut [i32; SLOT_LIMIT],
     xs: &mut [i32; SLOT_LIMIT],
     ys: &mut [i32; SLOT_LIMIT],
     zs: &mut [i32; SLOT_LIMIT],
 )
-    requires { ⌜ Level (now whole) (now whole) (now places) ⌝ }
+    requires { ⌜ Level (now whole) (now whole) ⌝ }
     requires { ⌜ Fits grid (now picture) (now slopes) ⌝ }
     requires { ⌜ BlockIn grid block ⌝ }
     requires { ⌜ MarksFit 2 (now whole) (now work)
-        × (length (now whole) ≤ length (now first)) × (length (now firstplaces) ≡ length (now first))
-        × (length (now whole) ≤ length (now second)) × (length (now secondplaces) ≡ length (now second)) ⌝ }
+        × (length (now whole) ≤ length (now first))
+        × (length (now whole) ≤ length (now second)) ⌝ }
     requires { ⌜ Sized (slotsOf (now values) (now xs) (now ys) (now zs)) ⌝ }
     ensures { λ _. ⌜ Shading (now (whole .entry)) grid (now (picture .entry)) (allOf grid) block block
         (now (slopes .entry)) (now (slopes .exit)) ⌝ }
@@ -136,7 +115,6 @@ fn visit_sixteen(
         };
         shade_window(
             whole,
-            places,
             grid,
             block,
             window,
@@ -144,9 +122,7 @@ fn visit_sixteen(
             slopes,
             work,
             first,
-            firstplaces,
             second,
-            secondplaces,
             values,
             xs,
             ys,
@@ -163,27 +139,24 @@ fn visit_sixteen(
 // One row of blocks, at most 16 pixels along y.
 fn sixteen_row(
     whole: &[u64],
-    places: &[u16],
     grid: Grid,
     row: Block,
     picture: &[u16],
     slopes: &mut [i32],
     work: &mut [u8],
     first: &mut [u64],
-    firstplaces: &mut [u16],
     second: &mut [u64],
-    secondplaces: &mut [u16],
     values: &mut [i32; SLOT_LIMIT],
     xs: &mut [i32; SLOT_LIMIT],
     ys: &mut [i32; SLOT_LIMIT],
     zs: &mut [i32; SLOT_LIMIT],
 )
-    requires { ⌜ Level (now whole) (now whole) (now places) ⌝ }
+    requires { ⌜ Level (now whole) (now whole) ⌝ }
     requires { ⌜ Fits grid (now picture) (now slopes) ⌝ }
     requires { ⌜ BlockIn grid row ⌝ }
     requires { ⌜ MarksFit 2 (now whole) (now work)
-        × (length (now whole) ≤ length (now first)) × (length (now firstplaces) ≡ length (now first))
-        × (length (now whole) ≤ length (now second)) × (length (now secondplaces) ≡ length (now second)) ⌝ }
+        × (length (now whole) ≤ length (now first))
+        × (length (now whole) ≤ length (now second)) ⌝ }
     requires { ⌜ Sized (slotsOf (now values) (now xs) (now ys) (now zs)) ⌝ }
     ensures { λ _. ⌜ Shading (now (whole .entry)) grid (now (picture .entry)) (allOf grid) row row
         (now (slopes .entry)) (now (slopes .exit)) ⌝ }
@@ -200,16 +173,13 @@ fn sixteen_row(
         };
         visit_sixteen(
             whole,
-            places,
             grid,
             block,
             picture,
             slopes,
             work,
             first,
-            firstplaces,
             second,
-            secondplaces,
             values,
             xs,
             ys,
@@ -221,27 +191,24 @@ fn sixteen_row(
 
 fn sixteen_rows(
     whole: &[u64],
-    places: &[u16],
     grid: Grid,
     block: Block,
     picture: &[u16],
     slopes: &mut [i32],
     work: &mut [u8],
     first: &mut [u64],
-    firstplaces: &mut [u16],
     second: &mut [u64],
-    secondplaces: &mut [u16],
     values: &mut [i32; SLOT_LIMIT],
     xs: &mut [i32; SLOT_LIMIT],
     ys: &mut [i32; SLOT_LIMIT],
     zs: &mut [i32; SLOT_LIMIT],
 )
-    requires { ⌜ Level (now whole) (now whole) (now places) ⌝ }
+    requires { ⌜ Level (now whole) (now whole) ⌝ }
     requires { ⌜ Fits grid (now picture) (now slopes) ⌝ }
     requires { ⌜ BlockIn grid block ⌝ }
     requires { ⌜ MarksFit 2 (now whole) (now work)
-        × (length (now whole) ≤ length (now first)) × (length (now firstplaces) ≡ length (now first))
-        × (length (now whole) ≤ length (now second)) × (length (now secondplaces) ≡ length (now second)) ⌝ }
+        × (length (now whole) ≤ length (now first))
+        × (length (now whole) ≤ length (now second)) ⌝ }
     requires { ⌜ Sized (slotsOf (now values) (now xs) (now ys) (now zs)) ⌝ }
     ensures { λ _. ⌜ Shading (now (whole .entry)) grid (now (picture .entry)) (allOf grid) block block
         (now (slopes .entry)) (now (slopes .exit)) ⌝ }
@@ -258,16 +225,13 @@ fn sixteen_rows(
         };
         sixteen_row(
             whole,
-            places,
             grid,
             row,
             picture,
             slopes,
             work,
             first,
-            firstplaces,
             second,
-            secondplaces,
             values,
             xs,
             ys,
@@ -280,26 +244,20 @@ fn sixteen_rows(
 // The slopes of the whole picture, whatever the list held. The buffers of the levels are lent.
 pub fn shade(
     whole: &[u64],
-    places: &mut [u16],
     grid: Grid,
     picture: &[u16],
     slopes: &mut [i32],
     work: &mut [u8],
     first: &mut [u64],
-    firstplaces: &mut [u16],
     second: &mut [u64],
-    secondplaces: &mut [u16],
 )
-    requires { ⌜ Sound (now whole) ⌝ }
+    requires { ⌜ Level (now whole) (now whole) ⌝ }
     requires { ⌜ Fits grid (now picture) (now slopes) ⌝ }
-    requires { ⌜ length (now whole) ≤ length (now places) ⌝ }
     requires { ⌜ MarksFit 2 (now whole) (now work)
-        × (length (now whole) ≤ length (now first)) × (length (now firstplaces) ≡ length (now first))
-        × (length (now whole) ≤ length (now second)) × (length (now secondplaces) ≡ length (now second)) ⌝ }
+        × (length (now whole) ≤ length (now first))
+        × (length (now whole) ≤ length (now second)) ⌝ }
     ensures { λ _. ⌜ Shaded (now (whole .entry)) grid (now (picture .entry)) (now (slopes .exit)) ⌝ }
 {
-    let n = whole.len();
-    whole_places(places, n);
     clear(slopes);
     let mut values = [0i32; SLOT_LIMIT];
     let mut xs = [0i32; SLOT_LIMIT];
@@ -313,16 +271,13 @@ pub fn shade(
     };
     sixteen_rows(
         whole,
-        &places[..n],
         grid,
         all,
         picture,
         slopes,
         work,
         first,
-        firstplaces,
         second,
-        secondplaces,
         &mut values,
         &mut xs,
         &mut ys,

@@ -16,10 +16,11 @@ use Rattle.rules.proofs.ShortAccepted.{short-accepted}
 use Rattle.code.specs.Words.{tapeIn, Runnable}
 use Rattle.code.specs.Runs.{Fit, Bounded}
 use Rattle.code.proofs.WordTapes.{words-run, words-runnable, length-clauses}
-use Rattle.shortening.specs.Kept.{Chosen, Cut}
+use Rattle.rules.specs.Marks.{marksOver, markBytes}
+use Rattle.shortening.specs.Kept.{KeptAs, Chosen, markRoom, Cut}
 use Rattle.shortening.proofs.ChoiceLaws.{choices-chosen}
-use Rattle.shortening.proofs.KeptLaws.{cut-kept}
-use Rattle.shortening.proofs.CutLaws.{short-tape}
+use Rattle.shortening.proofs.KeptLaws.{cut-kept, same-marks}
+use Rattle.shortening.proofs.CutLaws.{short-tape, cut-marks}
 use Rattle.picture.specs.Shapes.{gridIn}
 use Rattle.picture.specs.declared.grid.Grid.{Grid}
 use Rattle.walk.specs.Cells.{CellOf, regionIn, CellBox}
@@ -98,8 +99,8 @@ module _ (isSolid : Bool) {ws : List ℕ} {grid : Grid} {c : Cell} {b hs hs′ :
         bound = omega arith;
       }
 
-  pub opened : {whole qs hs″ next ps : List ℕ} {base start : ℕ} → IsMixed x → Cut whole ws qs hs′ base hs″ next ps start
-      → Opened isSolid whole ws qs grid (regionIn c) b b hs″ next ps start
+  pub opened : {whole hs″ next : List ℕ} {base start : ℕ} → IsMixed x → Cut whole ws hs′ base hs″ next start
+      → Opened isSolid whole ws grid (regionIn c) b b base hs″ next start
   opened j s =
       record {
         same = refl;
@@ -109,20 +110,19 @@ module _ (isSolid : Bool) {ws : List ℕ} {grid : Grid} {c : Cell} {b hs hs′ :
           start = s .within;
           short = λ n a. short-tape n _ (over-region .choices n a) s;
         };
-        base = _;
         choices = hs′;
+        own = over-region .choices;
         by-cut = s;
       }
 
 -- What the look says, once it is known whether the region is done.
-module _ (isSolid : Bool) (whole ws qs : List ℕ) (grid : Grid) (r : Region) (b b′ work next ps : List ℕ)
-    {v : Seen}
-    (j : Looked isSolid whole ws qs grid r b b′ work next ps v) where
+module _ (isSolid : Bool) (whole ws : List ℕ) (grid : Grid) (r : Region) (b b′ : List ℕ) (base : ℕ)
+    (work next : List ℕ) {v : Seen} (j : Looked isSolid whole ws grid r b b′ base work next v) where
   pub done-of : {c : ℕ} → v ≡ Done c → Finished isSolid ws grid r b b′ c
-  done-of e = subst (λ u. Looked isSolid whole ws qs grid r b b′ work next ps u) e j
+  done-of e = subst (λ u. Looked isSolid whole ws grid r b b′ base work next u) e j
 
-  pub open-of : {m : ℕ} → v ≡ Open m → Opened isSolid whole ws qs grid r b b′ work next ps m
-  open-of e = subst (λ u. Looked isSolid whole ws qs grid r b b′ work next ps u) e j
+  pub open-of : {m : ℕ} → v ≡ Open m → Opened isSolid whole ws grid r b b′ base work next m
+  open-of e = subst (λ u. Looked isSolid whole ws grid r b b′ base work next u) e j
 
 -- Done without its children: at most one run is counted.
 pub done-visits : {isSolid : Bool} {ws : List ℕ} {grid : Grid} {q r : Region} {b b′ : List ℕ} {c : ℕ} (k n : ℕ)
@@ -138,9 +138,8 @@ lent-words start next = take-all (length next - start) (drop start next) (rw len
 
 -- After a cut: the short words are sound and no more than the region's, and visiting the children with them is the rest
 -- of the visit. If at most k runs are counted of the children, at most k + 1 are of the region.
-module _ {isSolid : Bool} {whole ws qs : List ℕ} {grid : Grid} {q : Region} {b b₁ work next ps : List ℕ}
-    {start : ℕ} (s : Sound ws)
-    (o : Opened isSolid whole ws qs grid q b b₁ work next ps start) where
+module _ {isSolid : Bool} {whole ws : List ℕ} {grid : Grid} {q : Region} {b b₁ work next : List ℕ}
+    {base start : ℕ} (s : Sound ws) (o : Opened isSolid whole ws grid q b b₁ base work next start) where
   short-again : (n : ℕ) → Accepted (tapeIn n ws) → Accepted (tapeIn n (drop start next))
   short-again n a =
       subst Accepted (sym (o .cut .short n (fit-of a))) (short-accepted (tapeIn n ws) a (boxOf (gridIn grid isSolid) q))
@@ -149,8 +148,8 @@ module _ {isSolid : Bool} {whole ws qs : List ℕ} {grid : Grid} {q : Region} {b
   open-sound =
       rw (lent-words start next) (record { slots = s .slots; accepted = short-again (s .slots) (s .accepted) })
 
-  pub open-level : Level whole (take (length next - start) (drop start next)) (take (length ps - start) (drop start ps))
-  open-level = record { sound = open-sound; kept = rw (lent-words start next, lent-words start ps) (cut-kept (o .by-cut)) }
+  pub open-level : Level whole (take (length next - start) (drop start next))
+  open-level = record { sound = open-sound; kept = rw (lent-words start next) (cut-kept (o .by-cut)) }
 
   short-fewer : length (drop start next) ≤ length ws
   short-fewer =
@@ -188,13 +187,25 @@ module _ {isSolid : Bool} {whole ws qs : List ℕ} {grid : Grid} {q : Region} {b
       → Visits isSolid (suc k) ws grid (n ∷ ns) r b b′ (length ws + c)
   open-visits n ns k e h f = rw (← e) (cut-visits n ns k h (rw (lent-words start next) at f))
 
+-- The marks in the work buffer are those of the whole tape over the region's box, after any marks that keep its words.
+pub open-marks : {isSolid : Bool} {whole ws : List ℕ} {grid : Grid} {q : Region} {b b₁ work next : List ℕ}
+    {base start : ℕ} → Opened isSolid whole ws grid q b b₁ base work next start → (n : ℕ) → Fit n ws → (ms : List ℕ)
+    → KeptAs whole ws ms
+    → take (markRoom (length whole)) (drop base work)
+    ≡ markBytes (marksOver (tapeIn n whole) ms (boxOf (gridIn grid isSolid) q))
+open-marks {isSolid} {whole} {grid = grid} {q} o n f ms k =
+    o .by-cut .bytes
+    ∙ ap markBytes
+    (cut-marks n (boxOf (gridIn grid isSolid) q) (o .own n f) (o .by-cut)
+    ∙ ap (λ (l : List ℕ). marksOver (tapeIn n whole) l (boxOf (gridIn grid isSolid) q))
+    (same-marks (o .by-cut .was) k))
+
 -- The same of a cell whose children are l layers, or l rows, of side n.
-module _ {whole ws qs : List ℕ} {grid : Grid} {cell : Cell} {r : Region} {b b₁ work next ps : List ℕ} {start : ℕ}
-    (n l : ℕ)
-    (s : Sound ws)
+module _ {whole ws : List ℕ} {grid : Grid} {cell : Cell} {r : Region} {b b₁ work next : List ℕ} {base start : ℕ}
+    (n l : ℕ) (s : Sound ws)
     (some : 1 ≤ n) (some-part : 1 ≤ l) (parts : r .long ≡ l * n) where
   pub open-layers : CellOf (grid .depth) grid r cell → gridFault true (gridIn grid true) ≡ 0
-      → Opened true whole ws qs grid (regionIn cell) b b₁ work next ps start → (ns : List ℕ) (k : ℕ) {c : ℕ} {b′ : List ℕ}
+      → Opened true whole ws grid (regionIn cell) b b₁ base work next start → (ns : List ℕ) (k : ℕ) {c : ℕ} {b′ : List ℕ}
       → Folds true k (take (length next - start) (drop start next)) grid ns
       (alongZ l l (cell .x) (cell .y) (cell .z) n (cell .xend) (cell .yend) (cell .zend)) b₁ b′ c
       → Visits true (suc k) ws grid (n ∷ ns) r b b′ (length ws + c)
@@ -202,8 +213,8 @@ module _ {whole ws qs : List ℕ} {grid : Grid} {cell : Cell} {r : Region} {b b�
       open-visits s o n ns k (d .same)
       (cell-layers grid cell n l some some-part (ap (λ (q : Region). q .long) (d .same) ∙ parts) (d .ok) e) f
 
-  pub open-rows : CellOf 1 grid r cell → Opened false whole ws qs grid (regionIn cell) b b₁ work next ps start → (ns : List ℕ) (k : ℕ)
-      {c : ℕ} {b′ : List ℕ}
+  pub open-rows : CellOf 1 grid r cell → Opened false whole ws grid (regionIn cell) b b₁ base work next start
+      → (ns : List ℕ) (k : ℕ) {c : ℕ} {b′ : List ℕ}
       → Folds false k (take (length next - start) (drop start next)) grid ns
       (alongY l l (cell .x) (cell .y) 0 n (cell .xend) (cell .yend)) b₁ b′ c
       → Visits false (suc k) ws grid (n ∷ ns) r b b′ (length ws + c)

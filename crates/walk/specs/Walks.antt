@@ -4,11 +4,13 @@ use mathlib.Core.Path.{_≡_}
 use mathlib.Core.Bool.{Bool, true, false}
 use mathlib.Core.List.{List, _∷_}
 use Prim.Native.Nat.{ℕ, _+_, _*_, _≤_}
-use lib.ListN.{length}
+use lib.ListN.{length, take, replicate}
 use Rattle.rules.specs.Drawings.{Region, boxOf, fold, visit, walked}
 use Rattle.rules.specs.Pictures.{picture}
 use Rattle.rules.specs.Accepted.{Accepted}
-use Rattle.code.specs.Words.{tapeIn}
+use Rattle.rules.specs.Tapes.{noRange, choicesFrom}
+use Rattle.code.specs.Words.{clausesIn, tapeIn}
+use Rattle.code.specs.Runs.{Fit}
 use Rattle.shortening.specs.Kept.{Kept, Cut, markRoom}
 use Rattle.picture.specs.Bits.{Shows}
 use Rattle.picture.specs.Shapes.{gridIn}
@@ -23,10 +25,10 @@ pub record Sound (ws : List ℕ) : Type 0 where
   pub slots : ℕ
   pub accepted : Accepted (tapeIn slots ws)
 
--- The words and places of one level of the walk: an accepted tape, kept of the words of the whole tape.
-pub record Level (whole ws places : List ℕ) : Type 0 where
+-- The words of one level of the walk: an accepted tape, kept of the words of the whole tape.
+pub record Level (whole ws : List ℕ) : Type 0 where
   pub sound : Sound ws
-  pub kept : Kept whole ws places
+  pub kept : Kept whole ws
 
 -- The work buffer has room for the choices and for the marks of k levels.
 abbrev pub MarksFit : ℕ → List ℕ → List ℕ → Type 0
@@ -57,22 +59,23 @@ pub record Finished (isSolid : Bool) (ws : List ℕ) (grid : Grid) (r : Region) 
       → Draws (Shown isSolid grid) (visit (n ∷ ns) (tapeIn m ws) (gridIn grid isSolid) r) b b′ c
   pub bound : c ≤ length ws
 
--- A region that is seen and cut, before its children; the words from start on are its short tape's, and their places
--- beside them. The short tape is kept as marks in the work buffer, from some base on: `by-cut` has their bytes.
-pub record Opened (isSolid : Bool) (whole ws qs : List ℕ) (grid : Grid) (r : Region)
-    (b b′ work next places : List ℕ) (start : ℕ) : Type 0 where
+-- A region that is seen and cut, before its children; the words from start on are its short tape's. The short tape is
+-- kept as marks in the work buffer, from base on: those that the choices of the region's own run over ranges make of the
+-- marks before.
+pub record Opened (isSolid : Bool) (whole ws : List ℕ) (grid : Grid) (r : Region) (b b′ : List ℕ) (base : ℕ)
+    (work next : List ℕ) (start : ℕ) : Type 0 where
   pub same : b′ ≡ b
   pub seen : Hidden (Shown isSolid grid) (gridIn grid isSolid) r b false
   pub cut : IsCut ws (boxOf (gridIn grid isSolid) r) next start
-  pub base : ℕ
   pub choices : List ℕ
-  pub by-cut : Cut whole ws qs choices base work next places start
+  pub own : (n : ℕ) → Fit n ws
+      → take (length ws) choices ≡ choicesFrom (clausesIn ws) (boxOf (gridIn grid isSolid) r) (replicate n noRange)
+  pub by-cut : Cut whole ws choices base work next start
 
-abbrev pub Looked : Bool → List ℕ → List ℕ → List ℕ → Grid → Region → List ℕ → List ℕ → List ℕ → List ℕ → List ℕ → Seen
-    → Type 0
-Looked isSolid whole ws qs grid r b b′ work next places (Done c) = Finished isSolid ws grid r b b′ c
-Looked isSolid whole ws qs grid r b b′ work next places (Open start) =
-    Opened isSolid whole ws qs grid r b b′ work next places start
+abbrev pub Looked : Bool → List ℕ → List ℕ → Grid → Region → List ℕ → List ℕ → ℕ → List ℕ → List ℕ → Seen → Type 0
+Looked isSolid whole ws grid r b b′ base work next (Done c) = Finished isSolid ws grid r b b′ c
+Looked isSolid whole ws grid r b b′ base work next (Open start) =
+    Opened isSolid whole ws grid r b b′ base work next start
 
 -- The whole drawing.
 pub record Walked (isSolid : Bool) (ws : List ℕ) (grid : Grid) (b : List ℕ) (c : ℕ) : Type 0 where

@@ -1,84 +1,63 @@
--- Done by the look, or cut and its children visited.
-use mathlib.Core.Path.{_≡_, refl, ap}
+-- Done by the look, or cut and its samples run.
+use mathlib.Core.Path.{_≡_, refl, sym}
 use mathlib.Core.Bool.{false}
 use mathlib.Core.List.{[]}
-use Prim.Native.Nat.{_%_}
+use Prim.Native.Nat.{_+_}
 use native.Mathlib.Omega.{arith}
-use Rattle.rules.specs.Drawings.{Region, region}
-use Rattle.picture.proofs.PartLaws.{apart-then}
-use Rattle.walk.specs.Cells.{CellOf, regionIn}
+use lib.ListN.{length}
+use Rattle.picture.proofs.PartLaws.{apart-then, apart-part}
+use Rattle.picture.specs.Parts.{Apart}
+use Rattle.walk.specs.Cells.{regionIn}
 use Rattle.walk.specs.Walks.{Opened}
-use Rattle.walk.proofs.CellLaws.{ready-small}
 use Rattle.walk.proofs.LookLaws.{sound-length, done-of, open-of, done-visits, open-sound, open-fewer, open-rows}
 use Rattle.walk.proofs.Places.{ready-again}
-use Rattle.flat_blocks.proofs.CellParts.{cell-blank, cell-apart, side-apart}
+use Rattle.flat_blocks.proofs.CellParts.{looked-apart, same-blank}
 use borrow.Author.Needs.{needs}
 use Rattle.flat_blocks.proofs.eights.visit_eight.Statement.{statement}
 use Rattle.flat_blocks.proofs.eights.visit_eight.Tie as tie
 
--- The places: the start, before and after the cell is made; the look, from either arm; in the arm of a cut the call for
--- the children, and what is after it.
-abbrev begun : tie.After-slice-known4 → tie.Start
-begun c = c .before .before .before .before .before .before .before
+-- The places: the start; the look, from either arm; in the arm of a cut the call for the samples, and what is after it.
+abbrev begun : tie.After-slice-known3 → tie.Start
+begun c = c .before .before .before .before .before
 
-abbrev start : tie.After-cell-at → tie.Start
-start c = begun (c .before)
-
-abbrev with-cell : tie.After-look → tie.After-cell-at
-with-cell c = c .before .before .before .before .before .before
+abbrev start : tie.After-look → tie.Start
+start c = begun (c .before .before .before .before .before)
 
 abbrev done : tie.After-known-told → tie.After-look
-done c = c .before .before .before .before .before .before .before .before .before .before .before
+done c = c .before .before .before .before .before .before .before .before .before
 
 abbrev looked : tie.After-known-told2 → tie.After-look
-looked c = c .before .before .before .before .before .before .before .before .before .before .before
+looked c = c .before .before .before .before .before .before .before .before .before
 
 abbrev in-cut : tie.After-sample-rows-arg2 → tie.After-known-told2
 in-cut c = c .before .before .before .before
 
-abbrev visited : tie.After-slice-known9 → tie.After-sample-rows
+abbrev visited : tie.After-slice-known7 → tie.After-sample-rows
 visited c = c .before .before
-
-abbrev made-cell : tie.After-look-arg4 → tie.After-cell-at
-made-cell c = c .before .before .before .before .before
-
--- What is known at them.
-made : (c : tie.After-cell-at)
-    → let a = start c .args in CellOf 1 (a .grid) (region (a .x) (a .y) 0 8) (c .cell-at .result)
-made c = c .cell-at .ensures
-
-begins : (c : tie.After-cell-at) → c .cell-at .result .x % 8 ≡ 0
-begins c = omega (arith, ap (λ (q : Region). q .i) (made c .same), start c .pre .1 .1 .1 .0)
 
 opened : (c : tie.After-known-told2)
     → let j = looked c in
-    let a = start (with-cell j) .args in
-    Opened false (a .whole .now) (a .code .now) (a .places .now) (a .grid) (regionIn (with-cell j .cell-at .result)) (a .picture .now)
-    (j .look .last .1 .1 .1 .1 .1 .0) (j .look .last .1 .1 .1 .1 .1 .1 .0) (j .look .last .1 .1 .1 .1 .1 .1 .1 .1 .0)
-    (j .look .last .1 .1 .1 .1 .1 .1 .1 .1 .1 .0) (c .before .seen2 .given .0 .0)
-opened c = open-of false _ _ _ _ _ _ _ _ _ _ (looked c .look .ensures .0) (c .before .seen2 .given .1)
-
-cell-at-requires : tie.Need-cell-at-requires
-cell-at-requires c κs =
-    let p = begun c .pre .1 in (ready-small (p .0), (p .1 .0, (omega arith, omega arith)))
+    let a = start j .args in
+    let now = j .look .last .1 .1 .1 .1 in
+    Opened false (a .whole .now) (a .code .now) (a .grid) (regionIn (a .cell)) (a .picture .now)
+    (now .0) (length (a .whole .now) + j .before .before .before .before .mark-room .result) (now .1 .0) (now .1 .1 .1 .0) (c .before .seen2 .given .0 .0)
+opened c = open-of false _ _ _ _ _ _ _ _ _ (looked c .look .ensures .0) (c .before .seen2 .given .1)
 
 mark-room-requires : tie.Need-mark-room-requires
-mark-room-requires c κs =
-    start c .pre .0 .kept .kept .within
+mark-room-requires c κs = begun c .pre .0 .kept .kept .within
 
 add-base : tie.Need-add-base
 add-base c =
-    let p = start (c .before) .pre in
-    let w = p .0 .kept .kept .within in
+    let w = begun (c .before) .pre .0 .kept .kept .within in
     omega (arith, c .mark-room .ensures)
 
 look-requires : tie.Need-look-requires
 look-requires c κs =
-    let k = made-cell c in
-    let p = start k .pre in
+    let k = c .before .before .before in
+    let p = begun (k .before) .pre in
     let r = p .1 .1 .1 .1 .0 in
-    let m = c .before .before .before .before .mark-room .ensures in
-    (p .0, (p .1 .0, (made k .ok, (begins k, ((omega arith, omega (arith, m)), (omega arith, omega arith))))))
+    let m = k .mark-room .ensures in
+    (p .0, (p .1 .0, (p .1 .1 .0, (p .1 .1 .1 .0 .1, ((omega arith, omega (arith, m)), omega arith)))))
 
 enum-known-seen : tie.Need-enum-known-seen
 enum-known-seen c = search needs
@@ -90,8 +69,8 @@ mul-short : tie.Need-mul-short
 mul-short c =
     let j = looked c in
     let o = opened c .cut .start in
-    let g = start (with-cell j) .good in
-    omega (arith, j .look .kept .1 .1 .1 .1 .1 .1 .1 .1 .0)
+    let g = start j .good in
+    omega (arith, j .look .kept .1 .1 .1 .1 .1 .1 .1 .0)
 
 sub-short : tie.Need-sub-short
 sub-short c = opened c .cut .start
@@ -107,18 +86,13 @@ sample-rows-requires : tie.Need-sample-rows-requires
 sample-rows-requires c κs =
     let t = in-cut c in
     let j = looked t in
-    let k = with-cell j in
-    let p = start k .pre in
-    let l = p .1 .1 .1 .1 in
-    let short = open-sound (p .0 .sound) (opened t) in
-    let side = ap (λ (q : Region). q .long) (made k .same) in (
+    let p = start j .pre in
+    let l = p .1 .1 .1 in
+    let short = open-sound (p .0 .sound) (opened t) in (
       search (short, p .0 .sound),
       (
-        ready-again (p .1 .0) (j .look .kept .1 .1 .1 .1 .1 .0),
-        (
-          made k .ok,
-          ((side, begins k), (l .1 .0, cell-blank (k .cell-at .result) (made k .same) (opened t .same) (l .1 .1))),
-        ),
+        ready-again (p .1 .0) (j .look .kept .1 .1 .1 .1 .0),
+        (p .1 .1 .0, (l .0, (l .1 .1 .0, same-blank (opened t .same) (l .1 .1 .1)))),
       ),
     )
 
@@ -126,8 +100,7 @@ add-result : tie.Need-add-result
 add-result c =
     let u = visited c in
     let t = in-cut (u .before) in
-    let s = start (with-cell (looked t)) in
-    let w = s .pre .0 .sound in
+    let w = start (looked t) .pre .0 .sound in
     omega (arith, sound-length w, open-fewer w (opened t), u .sample-rows .ensures .0 .bound)
 
 same-length : tie.Need-same-length
@@ -139,17 +112,17 @@ same-length-2 c = search needs
 same-length-3 : tie.Need-same-length-3
 same-length-3 c = search needs
 
+same-length-4 : tie.Need-same-length-4
+same-length-4 c = search needs
+
 returns : tie.Need-returns
 returns c =
     let j = done c in
-    let k = with-cell j in (
-      done-visits 65 1 [] (made k .same) (omega arith)
-          (done-of false _ _ _ _ _ _ _ _ _ _ (j .look .ensures .0) (c .before .seen .given .1)),
-      (start k .pre .1 .1 .1 .1 .1 .0, side-apart (k .cell-at .result) (made k .same) (j .look .ensures .1)),
+    let p = start j .pre .1 .1 .1 in (
+      done-visits 65 1 [] refl (omega arith)
+          (done-of false _ _ _ _ _ _ _ _ _ (j .look .ensures .0) (c .before .seen .given .1)),
+      (p .1 .1 .0, looked-apart (p .0 .0) (j .look .ensures .1)),
     )
-
-same-length-4 : tie.Need-same-length-4
-same-length-4 c = search needs
 
 same-length-5 : tie.Need-same-length-5
 same-length-5 c = search needs
@@ -162,28 +135,20 @@ returns-2 c =
     let u = visited c in
     let t = in-cut (u .before) in
     let j = looked t in
-    let k = with-cell j in
-    let e = made k .same in (
-      open-rows 1 8 (start k .pre .0 .sound) (omega arith) (omega arith) refl (made k) (opened t) [] 64
-          (u .sample-rows .ensures .0),
+    let p = start j .pre in
+    let side = p .1 .1 .1 .0 .0 in (
+      open-rows 1 8 (p .0 .sound) (omega arith) (omega arith) side (record { ok = p .1 .1 .0; same = refl }) (opened t)
+          [] 64 (u .sample-rows .ensures .0),
       (
         u .sample-rows .ensures .1 .0,
-        apart-then (side-apart (k .cell-at .result) e (j .look .ensures .1))
-            (cell-apart (k .cell-at .result) e (u .sample-rows .ensures .1 .1)),
+        apart-then (looked-apart side (j .look .ensures .1)) (u .sample-rows .ensures .1 .1),
       ),
     )
-
-same-length-7 : tie.Need-same-length-7
-same-length-7 c = search needs
-
-same-length-8 : tie.Need-same-length-8
-same-length-8 c = search needs
 
 pub visit-eight-spec : {M : Type 1} → statement M
 visit-eight-spec =
     tie.close
     (tie.spec
-    cell-at-requires
     mark-room-requires
     add-base
     look-requires
@@ -198,10 +163,8 @@ visit-eight-spec =
     same-length
     same-length-2
     same-length-3
-    same-length-4
     returns
+    same-length-4
     same-length-5
     same-length-6
-    same-length-7
-    same-length-8
     returns-2)

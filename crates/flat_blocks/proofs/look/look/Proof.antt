@@ -16,8 +16,8 @@ use Rattle.flat_blocks.proofs.look.look.Tie as tie
 
 -- The places: the start, before and after the box is made, that, once its range is there, and that, once there is a
 -- verdict.
-abbrev begun : tie.After-slice-known4 → tie.Start
-begun c = c .before .before .before .before .before .before .before
+abbrev begun : tie.After-slice-known3 → tie.Start
+begun c = c .before .before .before .before .before
 
 abbrev start : tie.After-flat-bounds → tie.Start
 start c = begun (c .before)
@@ -28,11 +28,11 @@ with-box c = c .before .before
 abbrev ranged : tie.After-verdict-on → tie.After-run-ranges
 ranged c = c .before .before .before
 
-abbrev lent : tie.After-cut-arg3 → tie.After-verdict-on
-lent c = c .before .before .before .before .before
+abbrev lent : tie.After-cut-arg2 → tie.After-verdict-on
+lent c = c .before .before .before .before
 
-abbrev after-cut : tie.After-slice-known9 → tie.After-cut
-after-cut c = c .before .before .before .before .before .before
+abbrev after-cut : tie.After-slice-known7 → tie.After-cut
+after-cut c = c .before .before .before .before
 
 -- Nothing is hidden in a flat drawing.
 seen : (c : tie.After-flat-bounds)
@@ -124,7 +124,7 @@ same-length-5 c = search needs
 returns-3 : tie.Need-returns-3
 returns-3 c =
     let k = after-cut c in
-    let told = k .before .before .before .before in
+    let told = k .before .before .before in
     let v = lent (k .before) in
     let j = ranged v in
     let b = with-box j in (
@@ -132,9 +132,6 @@ returns-3 c =
           (mixed-of _ (v .verdict-on .ensures) (told .enum-told3 .given .1)) (k .cut .ensures),
       apart-none _ _ _ _ _ _,
     )
-
-same-length-6 : tie.Need-same-length-6
-same-length-6 c = search needs
 
 pub look-spec : {M : Type 1} → statement M
 look-spec =
@@ -155,5 +152,4 @@ look-spec =
     returns-2
     same-length-4
     same-length-5
-    same-length-6
     returns-3)

@@ -13,16 +13,16 @@ use Rattle.flat_tiles.proofs.tiles.tile_flat.Tie as tie
 
 -- The places: the start, once the picture is clear, and that, before and after the tiles.
 abbrev start : tie.After-clear → tie.Start
-start c = c .before .before .before .before .before .before .before .before .before .before
+start c = c .before .before .before .before .before .before .before
 
-abbrev cleared : tie.After-tiles-in-arg7 → tie.After-clear
-cleared c = c .before .before .before .before .before .before .before .before .before
+abbrev cleared : tie.After-tiles-in-arg4 → tie.After-clear
+cleared c = c .before .before .before .before .before .before
 
-abbrev drawn : tie.After-slice-known15 → tie.After-tiles-in
-drawn c = c .before .before .before .before .before .before .before .before .before .before .before .before .before .before
+abbrev drawn : tie.After-slice-known9 → tie.After-tiles-in
+drawn c = c .before .before .before .before .before .before .before .before
 
-abbrev painted : tie.After-slice-known15 → tie.After-slice-known10
-painted c = c .before .before .before .before .before .before .before .before .before .before
+abbrev painted : tie.After-slice-known9 → tie.After-slice-known6
+painted c = c .before .before .before .before .before .before
 
 clear-requires : tie.Need-clear-requires
 clear-requires c κs = search needs
@@ -39,7 +39,7 @@ tiles-in-requires c κs =
         r,
         (
           record { start = refl; columns = omega arith; rows = omega arith },
-          (p .1 .1 .0, (p .1 .1 .1, all-blank _ _ _ _ _ (g .height * stride (g .width)) e)),
+          (p .1 .1, all-blank _ _ _ _ _ (g .height * stride (g .width)) e),
         ),
       ),
     )
@@ -56,22 +56,13 @@ same-length-3 c = search needs
 same-length-4 : tie.Need-same-length-4
 same-length-4 c = search needs
 
-same-length-5 : tie.Need-same-length-5
-same-length-5 c = search needs
-
-same-length-6 : tie.Need-same-length-6
-same-length-6 c = search needs
-
-same-length-7 : tie.Need-same-length-7
-same-length-7 c = search needs
-
 returns : tie.Need-returns
 returns c =
     let u = drawn c in
     let v = cleared (u .before) in
     let r = start v .pre .1 .0 in
     folds-walked (r .fault) (u .tiles-in .ensures .0) (v .clear .ensures ∙ ap (λ n. replicate n 0) (r .size))
-    (λ j. painted c .slice-known10 .given j .fits)
+    (λ j. painted c .slice-known6 .given j .fits)
 
 pub tile-flat-spec : {M : Type 1} → statement M
-tile-flat-spec = tie.close (tie.spec clear-requires tiles-in-requires same-length same-length-2 same-length-3 same-length-4 same-length-5 same-length-6 same-length-7 returns)
+tile-flat-spec = tie.close (tie.spec clear-requires tiles-in-requires same-length same-length-2 same-length-3 same-length-4 returns)

@@ -18,23 +18,21 @@ use Rattle.flat_tiles.proofs.tiles.tile_row.Statement.{statement}
 use Rattle.flat_tiles.proofs.tiles.tile_row.Tie as tie
 
 abbrev Inv-loop : tie.InvT-loop
-Inv-loop whole places grid rect y picture₀ work₀ first₀ firstplaces₀ second₀ secondplaces₀ slots₀ count₀ x₀ picture work first firstplaces second secondplaces slots count x =
+Inv-loop whole grid rect y picture₀ work₀ first₀ second₀ slots₀ count₀ x₀ picture work first second slots count x =
     AtColumn false 64 8 flatBound whole grid below64 (rect .x) (rect .xend) y 0 picture₀ picture count x
     × (length work ≡ length work₀)
     × (length first ≡ length first₀)
-    × (length firstplaces ≡ length firstplaces₀)
     × (length second ≡ length second₀)
-    × (length secondplaces ≡ length secondplaces₀)
     × (length slots ≡ slotLimit)
     × (x ≤ tilesEnd (rect .x) (rect .xend))
     × Apart (grid .width) (rect .x) x y (y + 64) picture₀ picture
 
 abbrev μ-loop : tie.MeasureT-loop
-μ-loop whole places grid rect y picture₀ work₀ first₀ firstplaces₀ second₀ secondplaces₀ slots₀ count₀ x₀ picture work first firstplaces second secondplaces slots count x = rect .xend - x
+μ-loop whole grid rect y picture₀ work₀ first₀ second₀ slots₀ count₀ x₀ picture work first second slots count x = rect .xend - x
 
 -- The places: the start, before the loop and at its test; in a turn, after the call, and past the loop.
-abbrev begun : tie.After-slice-known6 Inv-loop μ-loop → tie.Start Inv-loop μ-loop
-begun c = c .before .before .before .before .before .before .before .before
+abbrev begun : tie.After-slice-known4 Inv-loop μ-loop → tie.Start Inv-loop μ-loop
+begun c = c .before .before .before .before .before
 
 abbrev start : tie.At-loop Inv-loop μ-loop → tie.Start Inv-loop μ-loop
 start c = begun (c .before)
@@ -42,11 +40,11 @@ start c = begun (c .before)
 abbrev at-test : tie.Then1 Inv-loop μ-loop → tie.At-loop Inv-loop μ-loop
 at-test c = c .before .before
 
-abbrev in-turn : tie.After-visit-tile-arg7 Inv-loop μ-loop → tie.Then1 Inv-loop μ-loop
-in-turn c = c .before .before .before .before .before .before .before
+abbrev in-turn : tie.After-visit-tile-arg5 Inv-loop μ-loop → tie.Then1 Inv-loop μ-loop
+in-turn c = c .before .before .before .before .before
 
-abbrev called : tie.After-slice-known12 Inv-loop μ-loop → tie.After-visit-tile Inv-loop μ-loop
-called c = c .before .before .before .before .before .before .before .before .before .before .before .before
+abbrev called : tie.After-slice-known8 Inv-loop μ-loop → tie.After-visit-tile Inv-loop μ-loop
+called c = c .before .before .before .before .before .before .before .before
 
 abbrev past : tie.Else1 Inv-loop μ-loop → tie.At-loop Inv-loop μ-loop
 past c = c .before .before
@@ -56,8 +54,6 @@ loop-holds c =
     let p = begun c .pre .1 in
     let d = ready-small (p .0) in (
       row-begins _ (omega arith) (omega arith),
-      refl,
-      refl,
       refl,
       refl,
       refl,
@@ -73,7 +69,7 @@ visit-tile-requires c κs =
     let s = start (at-test t) in
     let p = s .pre .1 .1 in
     let o = i .0 .place .place in
-    let b = blank-behind {xend = at-test t .loop .x + 64} (omega arith) (omega (arith, t .if1 .taken)) (i .8)
+    let b = blank-behind {xend = at-test t .loop .x + 64} (omega arith) (omega (arith, t .if1 .taken)) (i .6)
     (p .1 .1 .1 .1) in
     let r = ready-again (s .pre .1 .0) (i .0 .place .size) in (
       s .pre .0,
@@ -83,7 +79,7 @@ visit-tile-requires c κs =
           record { x-in = omega (arith, t .if1 .taken); y-in = omega arith; z-in = omega arith },
           (
             omega (arith, o, p .0 .start),
-            ((omega arith, omega arith, omega arith, omega arith, omega arith), (i .6, b)),
+            ((omega arith, omega arith, omega arith), (i .4, b)),
           ),
         ),
       ),
@@ -111,16 +107,14 @@ loop-again c =
     let v = called c .visit-tile in
     let t = in-turn (called c .before) in
     let i = at-test t .loop .inv in
-    let kept = v .kept .1 .1 .1 .1 .1 in
+    let kept = v .kept .1 .1 .1 .1 in
     let o = i .0 .place .place in
-    let a = columns-apart (omega arith) (omega arith) (i .8) (v .ensures .1 .1) in
+    let a = columns-apart (omega arith) (omega arith) (i .6) (v .ensures .1 .1) in
     let again = row-again (i .0) (t .if1 .taken) (v .ensures .0) (kept .0) in (
       again,
       kept .1 .0 ∙ i .1,
       kept .1 .1 .0 ∙ i .2,
       kept .1 .1 .1 .0 ∙ i .3,
-      kept .1 .1 .1 .1 .0 ∙ i .4,
-      kept .1 .1 .1 .1 .1 .0 ∙ i .5,
       v .ensures .1 .0,
       omega (arith, o, t .if1 .taken),
       a,
@@ -138,16 +132,10 @@ same-length-3 c = past c .loop .inv .2
 same-length-4 : tie.Need-same-length-4 Inv-loop μ-loop
 same-length-4 c = past c .loop .inv .3
 
-same-length-5 : tie.Need-same-length-5 Inv-loop μ-loop
-same-length-5 c = past c .loop .inv .4
-
-same-length-6 : tie.Need-same-length-6 Inv-loop μ-loop
-same-length-6 c = past c .loop .inv .5
-
 returns : tie.Need-returns Inv-loop μ-loop
 returns c =
     let i = past c .loop .inv in
-    (row-done (i .0) (omega arith) (omega arith), (i .6, apart-part (omega (arith, i .7)) (i .8)))
+    (row-done (i .0) (omega arith) (omega arith), (i .4, apart-part (omega (arith, i .5)) (i .6)))
 
 pub tile-row-spec : {M : Type 1} → statement M
 tile-row-spec =
@@ -165,6 +153,4 @@ tile-row-spec =
     same-length-2
     same-length-3
     same-length-4
-    same-length-5
-    same-length-6
     returns)

@@ -18,24 +18,22 @@ use Rattle.flat_tiles.proofs.tiles.tile_rows.Statement.{statement}
 use Rattle.flat_tiles.proofs.tiles.tile_rows.Tie as tie
 
 abbrev Inv-loop : tie.InvT-loop
-Inv-loop whole places grid rect picture₀ work₀ first₀ firstplaces₀ second₀ secondplaces₀ slots₀ count₀ y₀ picture work first firstplaces second secondplaces slots count y =
+Inv-loop whole grid rect picture₀ work₀ first₀ second₀ slots₀ count₀ y₀ picture work first second slots count y =
     AtRow false 64 8 (8 * flatBound) whole grid below64 (rect .x) (rect .xend) (rect .y) (rect .yend) 0
     picture₀ picture count y
     × (length work ≡ length work₀)
     × (length first ≡ length first₀)
-    × (length firstplaces ≡ length firstplaces₀)
     × (length second ≡ length second₀)
-    × (length secondplaces ≡ length secondplaces₀)
     × (length slots ≡ slotLimit)
     × (y ≤ tilesEnd (rect .y) (rect .yend))
     × Apart (grid .width) (rect .x) (tilesEnd (rect .x) (rect .xend)) (rect .y) y picture₀ picture
 
 abbrev μ-loop : tie.MeasureT-loop
-μ-loop whole places grid rect picture₀ work₀ first₀ firstplaces₀ second₀ secondplaces₀ slots₀ count₀ y₀ picture work first firstplaces second secondplaces slots count y = rect .yend - y
+μ-loop whole grid rect picture₀ work₀ first₀ second₀ slots₀ count₀ y₀ picture work first second slots count y = rect .yend - y
 
 -- The places: the start, before the loop and at its test; in a turn, after the call, and past the loop.
-abbrev begun : tie.After-slice-known6 Inv-loop μ-loop → tie.Start Inv-loop μ-loop
-begun c = c .before .before .before .before .before .before .before .before
+abbrev begun : tie.After-slice-known4 Inv-loop μ-loop → tie.Start Inv-loop μ-loop
+begun c = c .before .before .before .before .before
 
 abbrev start : tie.At-loop Inv-loop μ-loop → tie.Start Inv-loop μ-loop
 start c = begun (c .before)
@@ -43,11 +41,11 @@ start c = begun (c .before)
 abbrev at-test : tie.Then1 Inv-loop μ-loop → tie.At-loop Inv-loop μ-loop
 at-test c = c .before .before
 
-abbrev in-turn : tie.After-tile-row-arg7 Inv-loop μ-loop → tie.Then1 Inv-loop μ-loop
-in-turn c = c .before .before .before .before .before .before .before
+abbrev in-turn : tie.After-tile-row-arg5 Inv-loop μ-loop → tie.Then1 Inv-loop μ-loop
+in-turn c = c .before .before .before .before .before
 
-abbrev called : tie.After-slice-known12 Inv-loop μ-loop → tie.After-tile-row Inv-loop μ-loop
-called c = c .before .before .before .before .before .before .before .before .before .before .before .before
+abbrev called : tie.After-slice-known8 Inv-loop μ-loop → tie.After-tile-row Inv-loop μ-loop
+called c = c .before .before .before .before .before .before .before .before
 
 abbrev past : tie.Else1 Inv-loop μ-loop → tie.At-loop Inv-loop μ-loop
 past c = c .before .before
@@ -57,8 +55,6 @@ loop-holds c =
     let p = begun c .pre .1 in
     let d = ready-small (p .0) in (
       rows-begin _ (omega arith) (omega arith),
-      refl,
-      refl,
       refl,
       refl,
       refl,
@@ -74,7 +70,7 @@ tile-row-requires c κs =
     let s = start (at-test t) in
     let p = s .pre .1 .1 in
     let o = i .0 .place .place in
-    let b = blank-below {yend = at-test t .loop .y + 64} (omega arith) (omega (arith, t .if1 .taken)) (i .8)
+    let b = blank-below {yend = at-test t .loop .y + 64} (omega arith) (omega (arith, t .if1 .taken)) (i .6)
     (p .1 .1 .1) in
     let r = ready-again (s .pre .1 .0) (i .0 .place .size) in (
       s .pre .0,
@@ -82,7 +78,7 @@ tile-row-requires c κs =
         r,
         (
           p .0,
-          (t .if1 .taken, ((omega arith, omega arith, omega arith, omega arith, omega arith), (i .6, b))),
+          (t .if1 .taken, ((omega arith, omega arith, omega arith), (i .4, b))),
         ),
       ),
     )
@@ -109,16 +105,14 @@ loop-again c =
     let v = called c .tile-row in
     let t = in-turn (called c .before) in
     let i = at-test t .loop .inv in
-    let kept = v .kept .1 .1 .1 .1 .1 in
+    let kept = v .kept .1 .1 .1 .1 in
     let o = i .0 .place .place in
-    let a = rows-apart (omega arith) (omega arith) (i .8) (v .ensures .1 .1) in
+    let a = rows-apart (omega arith) (omega arith) (i .6) (v .ensures .1 .1) in
     let again = rows-again (i .0) (t .if1 .taken) (v .ensures .0) (kept .0) in (
       again,
       kept .1 .0 ∙ i .1,
       kept .1 .1 .0 ∙ i .2,
       kept .1 .1 .1 .0 ∙ i .3,
-      kept .1 .1 .1 .1 .0 ∙ i .4,
-      kept .1 .1 .1 .1 .1 .0 ∙ i .5,
       v .ensures .1 .0,
       omega (arith, o, t .if1 .taken),
       a,
@@ -136,16 +130,10 @@ same-length-3 c = past c .loop .inv .2
 same-length-4 : tie.Need-same-length-4 Inv-loop μ-loop
 same-length-4 c = past c .loop .inv .3
 
-same-length-5 : tie.Need-same-length-5 Inv-loop μ-loop
-same-length-5 c = past c .loop .inv .4
-
-same-length-6 : tie.Need-same-length-6 Inv-loop μ-loop
-same-length-6 c = past c .loop .inv .5
-
 returns : tie.Need-returns Inv-loop μ-loop
 returns c =
     let i = past c .loop .inv in
-    (rows-done (i .0) (omega arith) (omega arith), (i .6, apart-part (omega (arith, i .7)) (i .8)))
+    (rows-done (i .0) (omega arith) (omega arith), (i .4, apart-part (omega (arith, i .5)) (i .6)))
 
 pub tile-rows-spec : {M : Type 1} → statement M
 tile-rows-spec =
@@ -163,6 +151,4 @@ tile-rows-spec =
     same-length-2
     same-length-3
     same-length-4
-    same-length-5
-    same-length-6
     returns)

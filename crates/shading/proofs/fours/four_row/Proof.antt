@@ -13,19 +13,18 @@ use Rattle.shading.proofs.fours.four_row.Statement.{statement}
 use Rattle.shading.proofs.fours.four_row.Tie as tie
 
 abbrev Inv-loop : tie.InvT-loop
-Inv-loop whole code places grid row window picture slopes₀ work₀ second₀ secondplaces₀ values₀ xs₀ ys₀ zs₀ x₀ slopes work second secondplaces values xs ys zs x =
+Inv-loop whole code grid row window picture slopes₀ work₀ second₀ values₀ xs₀ ys₀ zs₀ x₀ slopes work second values xs ys zs x =
     AtColumn code grid picture window row slopes₀ slopes x
     × (length work ≡ length work₀)
     × (length second ≡ length second₀)
-    × (length secondplaces ≡ length secondplaces₀)
     × Sized (slotsOf values xs ys zs)
 
 abbrev μ-loop : tie.MeasureT-loop
-μ-loop whole code places grid row window picture slopes₀ work₀ second₀ secondplaces₀ values₀ xs₀ ys₀ zs₀ x₀ slopes work second secondplaces values xs ys zs x = row .xend - x
+μ-loop whole code grid row window picture slopes₀ work₀ second₀ values₀ xs₀ ys₀ zs₀ x₀ slopes work second values xs ys zs x = row .xend - x
 
 -- The places: the start, the loop, a turn of it, the end of its part, after the call, and past the loop.
-abbrev begun : tie.After-slice-known3 Inv-loop μ-loop → tie.Start Inv-loop μ-loop
-begun c = c .before .before .before .before .before .before .before
+abbrev begun : tie.After-slice-known2 Inv-loop μ-loop → tie.Start Inv-loop μ-loop
+begun c = c .before .before .before .before .before
 
 abbrev start : tie.At-loop Inv-loop μ-loop → tie.Start Inv-loop μ-loop
 start c = begun (c .before)
@@ -33,11 +32,11 @@ start c = begun (c .before)
 abbrev at-test : tie.Then1 Inv-loop μ-loop → tie.At-loop Inv-loop μ-loop
 at-test c = c .before .before
 
-abbrev ended : tie.After-visit-four-arg8 Inv-loop μ-loop → tie.After-lesser Inv-loop μ-loop
-ended c = c .before .before .before .before .before .before .before .before
+abbrev ended : tie.After-visit-four-arg7 Inv-loop μ-loop → tie.After-lesser Inv-loop μ-loop
+ended c = c .before .before .before .before .before .before .before
 
-abbrev called : tie.After-slice-known6 Inv-loop μ-loop → tie.After-visit-four Inv-loop μ-loop
-called c = c .before .before .before .before .before .before .before
+abbrev called : tie.After-slice-known4 Inv-loop μ-loop → tie.After-visit-four Inv-loop μ-loop
+called c = c .before .before .before .before .before
 
 abbrev past : tie.Else1 Inv-loop μ-loop → tie.At-loop Inv-loop μ-loop
 past c = c .before .before
@@ -48,7 +47,7 @@ part : (c : tie.After-lesser Inv-loop μ-loop)
 part c = ends _ _ 4 _ (c .lesser .ensures) (c .before .if1 .taken) (omega arith)
 
 loop-holds : tie.Need-loop-holds Inv-loop μ-loop
-loop-holds c = (columns-begin (begun c .pre .1 .1 .0) _, refl, refl, refl, begun c .pre .1 .1 .1 .1 .1)
+loop-holds c = (columns-begin (begun c .pre .1 .1 .0) _, refl, refl, begun c .pre .1 .1 .1 .1 .1)
 
 add-lesser : tie.Need-add-lesser Inv-loop μ-loop
 add-lesser c =
@@ -74,8 +73,8 @@ visit-four-requires c κs =
         (
           b,
           (
-            (omega (arith, i .1, r .0), omega (arith, i .2, r .1), omega (arith, i .3, i .2, r .2)),
-            (p .1 .1 .1 .0, i .4),
+            (omega (arith, i .1, r .0), omega (arith, i .2, r .1)),
+            (p .1 .1 .1 .0, i .3),
           ),
         ),
       ),
@@ -90,12 +89,11 @@ loop-again c =
     let e = ended (called c .before) in
     let l = at-test (e .before) in
     let i = l .loop .inv in
-    let kept = v .kept .1 .1 .1 .1 .1 .1 .1 in (
+    let kept = v .kept .1 .1 .1 .1 .1 .1 in (
       columns-next (start l .pre .1 .1 .0) (e .lesser .result) (i .0) (omega (arith, part e .some)) (part e .in-grid)
           (v .ensures .0) (kept .0),
       kept .1 .0 ∙ i .1,
       kept .1 .1 .0 ∙ i .2,
-      kept .1 .1 .1 .0 ∙ i .3,
       v .ensures .1,
     )
 
@@ -108,11 +106,8 @@ same-length-2 c = past c .loop .inv .1
 same-length-3 : tie.Need-same-length-3 Inv-loop μ-loop
 same-length-3 c = past c .loop .inv .2
 
-same-length-4 : tie.Need-same-length-4 Inv-loop μ-loop
-same-length-4 c = past c .loop .inv .3
-
 returns : tie.Need-returns Inv-loop μ-loop
-returns c = let i = past c .loop .inv in (columns-done (i .0) (omega (arith, c .if1 .left)), i .4)
+returns c = let i = past c .loop .inv in (columns-done (i .0) (omega (arith, c .if1 .left)), i .3)
 
 pub four-row-spec : {M : Type 1} → statement M
 four-row-spec =
@@ -129,5 +124,4 @@ four-row-spec =
     same-length
     same-length-2
     same-length-3
-    same-length-4
     returns)

@@ -7,8 +7,8 @@ use Rattle.shading.proofs.fours.visit_four.Statement.{statement}
 use Rattle.shading.proofs.fours.visit_four.Tie as tie
 
 -- The places: the start, once the greatest height is known, once the words are there, and that, when they are lent.
-abbrev begun : tie.After-slice-known3 → tie.Start
-begun c = c .before .before .before .before .before .before .before
+abbrev begun : tie.After-slice-known2 → tie.Start
+begun c = c .before .before .before .before .before
 
 abbrev seen : tie.Then1 → tie.After-seen-in
 seen c = c .before .before
@@ -20,12 +20,12 @@ abbrev start : tie.Else1 → tie.Start
 start c = begun (c .before .before .before)
 
 abbrev in-case : tie.After-narrow → tie.Else1
-in-case c = c .before .before .before .before .before
+in-case c = c .before .before .before .before
 
-abbrev narrowed : tie.After-slice-known6 → tie.After-narrow
-narrowed c = c .before .before .before .before .before .before
+abbrev narrowed : tie.After-slice-known4 → tie.After-narrow
+narrowed c = c .before .before .before .before
 
-abbrev lent : tie.After-shade-rows-arg5 → tie.After-slice-known6
+abbrev lent : tie.After-shade-rows-arg5 → tie.After-slice-known4
 lent c = c .before .before .before .before .before .before .before
 
 seen-in-requires : tie.Need-seen-in-requires
@@ -47,7 +47,7 @@ add-base c =
 
 narrow-requires : tie.Need-narrow-requires
 narrow-requires c κs =
-    let r = c .before .before .before in
+    let r = c .before .before in
     let e = r .before in
     let p = start e .pre in
     let k = p .1 .1 .1 in
@@ -63,7 +63,7 @@ narrow-requires c κs =
               some = omega (arith, e .if1 .left);
               in-grid = omega (arith, topped e .seen-in .ensures .end, k .1 .0 .in-grid);
             },
-            ((omega arith, omega arith), (omega arith, omega arith)),
+            ((omega arith, omega arith), omega arith),
           ),
         ),
       ),
@@ -73,8 +73,8 @@ mul-short : tie.Need-mul-short
 mul-short c =
     let n = narrowed c in
     let o = n .narrow .ensures .within in
-    let g = start (in-case n) .good .1 .1 .1 .1 .1 .1 .1 .1 .1 .0 in
-    omega (arith, n .narrow .kept .1 .1 .1 .1 .1 .1 .1 .1 .0)
+    let g = start (in-case n) .good .1 .1 .1 .1 .1 .1 .1 .1 .0 in
+    omega (arith, n .narrow .kept .1 .1 .1 .1 .1 .1 .1 .0)
 
 sub-short : tie.Need-sub-short
 sub-short c = narrowed c .narrow .ensures .within
@@ -101,9 +101,6 @@ same-length-2 c = search needs
 
 same-length-3 : tie.Need-same-length-3
 same-length-3 c = search needs
-
-same-length-4 : tie.Need-same-length-4
-same-length-4 c = search needs
 
 returns-2 : tie.Need-returns-2
 returns-2 c =
@@ -132,5 +129,4 @@ visit-four-spec =
     same-length
     same-length-2
     same-length-3
-    same-length-4
     returns-2)

@@ -8,8 +8,8 @@ use Rattle.shading.proofs.narrow.narrow.Statement.{statement}
 use Rattle.shading.proofs.narrow.narrow.Tie as tie
 
 -- The places: the start, once the box is there, once its range is, and after the cut.
-abbrev begun : tie.After-slice-known3 → tie.Start
-begun c = c .before .before .before .before .before .before
+abbrev begun : tie.After-slice-known2 → tie.Start
+begun c = c .before .before .before .before
 
 abbrev start : tie.After-bounds → tie.Start
 start c = begun (c .before)
@@ -17,11 +17,11 @@ start c = begun (c .before)
 abbrev with-box : tie.After-run-ranges → tie.After-bounds
 with-box c = c .before .before
 
-abbrev ranged : tie.After-cut-arg3 → tie.After-run-ranges
-ranged c = c .before .before .before .before .before
+abbrev ranged : tie.After-cut-arg2 → tie.After-run-ranges
+ranged c = c .before .before .before .before
 
-abbrev after-cut : tie.After-slice-known7 → tie.After-cut
-after-cut c = c .before .before .before .before .before .before
+abbrev after-cut : tie.After-slice-known5 → tie.After-cut
+after-cut c = c .before .before .before .before
 
 bounds-requires : tie.Need-bounds-requires
 bounds-requires c κs = search needs
@@ -56,9 +56,6 @@ same-length c = search needs
 same-length-2 : tie.Need-same-length-2
 same-length-2 c = search needs
 
-same-length-3 : tie.Need-same-length-3
-same-length-3 c = search needs
-
 returns : tie.Need-returns
 returns c =
     let k = after-cut c in
@@ -76,5 +73,4 @@ narrow-spec =
     cut-requires
     same-length
     same-length-2
-    same-length-3
     returns)

@@ -8,28 +8,28 @@ use Rattle.shading.proofs.sixteens.shade_window.Statement.{statement}
 use Rattle.shading.proofs.sixteens.shade_window.Tie as tie
 
 -- The places: the start, once the words are there, that, when they are lent, and after the call.
-abbrev begun : tie.After-slice-known5 → tie.Start
-begun c = c .before .before .before .before .before .before .before .before
+abbrev begun : tie.After-slice-known3 → tie.Start
+begun c = c .before .before .before .before .before
 
 abbrev start : tie.After-narrow → tie.Start
-start c = begun (c .before .before .before .before)
+start c = begun (c .before .before .before)
 
-abbrev narrowed : tie.After-slice-known8 → tie.After-narrow
-narrowed c = c .before .before .before .before .before .before
+abbrev narrowed : tie.After-slice-known5 → tie.After-narrow
+narrowed c = c .before .before .before .before
 
-abbrev lent : tie.After-four-rows-arg8 → tie.After-slice-known8
-lent c = c .before .before .before .before .before .before .before .before .before .before .before .before
+abbrev lent : tie.After-four-rows-arg7 → tie.After-slice-known5
+lent c = c .before .before .before .before .before .before .before .before .before
 
-abbrev called : tie.After-slice-known11 → tie.After-four-rows
-called c = c .before .before .before .before .before .before .before
+abbrev called : tie.After-slice-known7 → tie.After-four-rows
+called c = c .before .before .before .before .before
 
 narrow-requires : tie.Need-narrow-requires
 narrow-requires c κs =
-    let p = begun (c .before .before .before) .pre in
+    let p = begun (c .before .before) .pre in
     let k = p .1 .1 .1 in
     let r = k .0 in (
       p .0,
-      (p .1 .0 .heights .fault, (p .1 .1 .0, (k .1 .0, ((omega arith, omega (arith, r .0)), (r .1, r .2))))),
+      (p .1 .0 .heights .fault, (p .1 .1 .0, (k .1 .0, ((omega arith, omega (arith, r .0)), r .1)))),
     )
 
 mul-short : tie.Need-mul-short
@@ -37,7 +37,7 @@ mul-short c =
     let n = narrowed c in
     let o = n .narrow .ensures .within in
     let g = start n .good in
-    omega (arith, n .narrow .kept .1 .1 .1 .1 .1 .1 .1 .1 .0)
+    omega (arith, n .narrow .kept .1 .1 .1 .1 .1 .1 .1 .0)
 
 sub-short : tie.Need-sub-short
 sub-short c = narrowed c .narrow .ensures .within
@@ -48,31 +48,6 @@ part-short-start c = narrowed (c .before) .narrow .ensures .within
 part-short-end : tie.Need-part-short-end
 part-short-end c = search needs
 
--- The places are as many as the words.
-places-start : (c : tie.After-slice-known8)
-    → narrowed c .narrow .result ≤ length (narrowed c .narrow .last .1 .1 .1 .1 .1 .1 .1 .1 .1 .0)
-places-start c =
-    let n = narrowed c in
-    let k = n .narrow .kept .1 .1 .1 .1 .1 .1 .1 .1 in
-    let r = start n .pre .1 .1 .1 .0 in
-    omega (arith, n .narrow .ensures .within, k .0, k .1 .0, r .2)
-
-mul-shortplaces : tie.Need-mul-shortplaces
-mul-shortplaces c =
-    let n = narrowed (c .before .before) in
-    let o = places-start (c .before .before) in
-    let g = start n .good in
-    omega (arith, n .narrow .kept .1 .1 .1 .1 .1 .1 .1 .1 .1 .0)
-
-sub-shortplaces : tie.Need-sub-shortplaces
-sub-shortplaces c = places-start (c .before .before)
-
-part-shortplaces-start : tie.Need-part-shortplaces-start
-part-shortplaces-start c = places-start (c .before .before .before)
-
-part-shortplaces-end : tie.Need-part-shortplaces-end
-part-shortplaces-end c = search needs
-
 -- Both tapes are of the level; which of them is lent shows in what is shaded.
 four-rows-requires : tie.Need-four-rows-requires
 four-rows-requires c κs =
@@ -80,9 +55,9 @@ four-rows-requires c κs =
     let p = start n .pre in
     let k = p .1 .1 .1 in
     let r = k .0 in
-    let w = n .narrow .kept .1 .1 .1 .1 .1 .1 .0 in
+    let w = n .narrow .kept .1 .1 .1 .1 .1 .0 in
     let short = narrow-level (n .narrow .ensures) (p .0) in
-    (search (short, p .0), (p .1 .0, (p .1 .1 .0, ((omega (arith, r .0, w), r .3, r .4), k .1))))
+    (search (short, p .0), (p .1 .0, (p .1 .1 .0, ((omega (arith, r .0, w), r .2), k .1))))
 
 same-length : tie.Need-same-length
 same-length c = search needs
@@ -95,12 +70,6 @@ same-length-3 c = search needs
 
 same-length-4 : tie.Need-same-length-4
 same-length-4 c = search needs
-
-same-length-5 : tie.Need-same-length-5
-same-length-5 c = search needs
-
-same-length-6 : tie.Need-same-length-6
-same-length-6 c = search needs
 
 returns : tie.Need-returns
 returns c =
@@ -117,15 +86,9 @@ shade-window-spec =
     sub-short
     part-short-start
     part-short-end
-    mul-shortplaces
-    sub-shortplaces
-    part-shortplaces-start
-    part-shortplaces-end
     four-rows-requires
     same-length
     same-length-2
     same-length-3
     same-length-4
-    same-length-5
-    same-length-6
     returns)

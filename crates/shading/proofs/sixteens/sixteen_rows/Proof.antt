@@ -14,21 +14,19 @@ use Rattle.shading.proofs.sixteens.sixteen_rows.Statement.{statement}
 use Rattle.shading.proofs.sixteens.sixteen_rows.Tie as tie
 
 abbrev Inv-loop : tie.InvT-loop
-Inv-loop whole places grid block picture slopes₀ work₀ first₀ firstplaces₀ second₀ secondplaces₀ values₀ xs₀ ys₀ zs₀ y₀ slopes work first firstplaces second secondplaces values xs ys zs y =
+Inv-loop whole grid block picture slopes₀ work₀ first₀ second₀ values₀ xs₀ ys₀ zs₀ y₀ slopes work first second values xs ys zs y =
     AtRow whole grid picture (allOf grid) block slopes₀ slopes y
     × (length work ≡ length work₀)
     × (length first ≡ length first₀)
-    × (length firstplaces ≡ length firstplaces₀)
     × (length second ≡ length second₀)
-    × (length secondplaces ≡ length secondplaces₀)
     × Sized (slotsOf values xs ys zs)
 
 abbrev μ-loop : tie.MeasureT-loop
-μ-loop whole places grid block picture slopes₀ work₀ first₀ firstplaces₀ second₀ secondplaces₀ values₀ xs₀ ys₀ zs₀ y₀ slopes work first firstplaces second secondplaces values xs ys zs y = block .yend - y
+μ-loop whole grid block picture slopes₀ work₀ first₀ second₀ values₀ xs₀ ys₀ zs₀ y₀ slopes work first second values xs ys zs y = block .yend - y
 
 -- The places: the start, the loop, a turn of it, the end of its part, after the call, and past the loop.
-abbrev begun : tie.After-slice-known5 Inv-loop μ-loop → tie.Start Inv-loop μ-loop
-begun c = c .before .before .before .before .before .before .before .before
+abbrev begun : tie.After-slice-known3 Inv-loop μ-loop → tie.Start Inv-loop μ-loop
+begun c = c .before .before .before .before .before
 
 abbrev start : tie.At-loop Inv-loop μ-loop → tie.Start Inv-loop μ-loop
 start c = begun (c .before)
@@ -36,11 +34,11 @@ start c = begun (c .before)
 abbrev at-test : tie.Then1 Inv-loop μ-loop → tie.At-loop Inv-loop μ-loop
 at-test c = c .before .before
 
-abbrev ended : tie.After-sixteen-row-arg10 Inv-loop μ-loop → tie.After-lesser Inv-loop μ-loop
-ended c = c .before .before .before .before .before .before .before .before .before .before
+abbrev ended : tie.After-sixteen-row-arg8 Inv-loop μ-loop → tie.After-lesser Inv-loop μ-loop
+ended c = c .before .before .before .before .before .before .before .before
 
-abbrev called : tie.After-slice-known10 Inv-loop μ-loop → tie.After-sixteen-row Inv-loop μ-loop
-called c = c .before .before .before .before .before .before .before .before .before .before .before
+abbrev called : tie.After-slice-known6 Inv-loop μ-loop → tie.After-sixteen-row Inv-loop μ-loop
+called c = c .before .before .before .before .before .before .before
 
 abbrev past : tie.Else1 Inv-loop μ-loop → tie.At-loop Inv-loop μ-loop
 past c = c .before .before
@@ -51,7 +49,7 @@ part : (c : tie.After-lesser Inv-loop μ-loop)
 part c = ends _ _ 16 _ (c .lesser .ensures) (c .before .if1 .taken) (omega arith)
 
 loop-holds : tie.Need-loop-holds Inv-loop μ-loop
-loop-holds c = (rows-begin (begun c .pre .1 .1 .0) _, refl, refl, refl, refl, refl, begun c .pre .1 .1 .1 .1)
+loop-holds c = (rows-begin (begun c .pre .1 .1 .0) _, refl, refl, refl, begun c .pre .1 .1 .1 .1)
 
 add-lesser : tie.Need-add-lesser Inv-loop μ-loop
 add-lesser c =
@@ -80,11 +78,9 @@ sixteen-row-requires c κs =
             (
               omega (arith, i .1, r .0),
               omega (arith, i .2, r .1),
-              omega (arith, i .3, i .2, r .2),
-              omega (arith, i .4, r .3),
-              omega (arith, i .5, i .4, r .4),
+              omega (arith, i .3, r .2),
             ),
-            i .6,
+            i .4,
           ),
         ),
       ),
@@ -99,14 +95,12 @@ loop-again c =
     let e = ended (called c .before) in
     let l = at-test (e .before) in
     let i = l .loop .inv in
-    let kept = v .kept .1 .1 .1 .1 .1 in (
+    let kept = v .kept .1 .1 .1 .1 in (
       rows-next (start l .pre .1 .1 .0) (e .lesser .result) (i .0) (omega (arith, part e .some)) (part e .in-grid)
           (v .ensures .0) (kept .0),
       kept .1 .0 ∙ i .1,
       kept .1 .1 .0 ∙ i .2,
       kept .1 .1 .1 .0 ∙ i .3,
-      kept .1 .1 .1 .1 .0 ∙ i .4,
-      kept .1 .1 .1 .1 .1 .0 ∙ i .5,
       v .ensures .1,
     )
 
@@ -122,14 +116,8 @@ same-length-3 c = past c .loop .inv .2
 same-length-4 : tie.Need-same-length-4 Inv-loop μ-loop
 same-length-4 c = past c .loop .inv .3
 
-same-length-5 : tie.Need-same-length-5 Inv-loop μ-loop
-same-length-5 c = past c .loop .inv .4
-
-same-length-6 : tie.Need-same-length-6 Inv-loop μ-loop
-same-length-6 c = past c .loop .inv .5
-
 returns : tie.Need-returns Inv-loop μ-loop
-returns c = let i = past c .loop .inv in (rows-done (i .0) (omega (arith, c .if1 .left)), i .6)
+returns c = let i = past c .loop .inv in (rows-done (i .0) (omega (arith, c .if1 .left)), i .4)
 
 pub sixteen-rows-spec : {M : Type 1} → statement M
 sixteen-rows-spec =
@@ -147,6 +135,4 @@ sixteen-rows-spec =
     same-length-2
     same-length-3
     same-length-4
-    same-length-5
-    same-length-6
     returns)

@@ -11,22 +11,20 @@ use Rattle.shading.proofs.sixteens.visit_sixteen.Statement.{statement}
 use Rattle.shading.proofs.sixteens.visit_sixteen.Tie as tie
 
 abbrev Inv-loop : tie.InvT-loop
-Inv-loop whole places grid block picture slopes₀ work₀ first₀ firstplaces₀ second₀ secondplaces₀ values₀ xs₀ ys₀ zs₀ left₀ slopes work first firstplaces second secondplaces values xs ys zs left =
+Inv-loop whole grid block picture slopes₀ work₀ first₀ second₀ values₀ xs₀ ys₀ zs₀ left₀ slopes work first second values xs ys zs left =
     AtLeft whole grid picture block slopes₀ slopes left
     × (length work ≡ length work₀)
     × (length first ≡ length first₀)
-    × (length firstplaces ≡ length firstplaces₀)
     × (length second ≡ length second₀)
-    × (length secondplaces ≡ length secondplaces₀)
     × Sized (slotsOf values xs ys zs)
 
 abbrev μ-loop : tie.MeasureT-loop
-μ-loop whole places grid block picture slopes₀ work₀ first₀ firstplaces₀ second₀ secondplaces₀ values₀ xs₀ ys₀ zs₀ left₀ slopes work first firstplaces second secondplaces values xs ys zs left = left .end
+μ-loop whole grid block picture slopes₀ work₀ first₀ second₀ values₀ xs₀ ys₀ zs₀ left₀ slopes work first second values xs ys zs left = left .end
 
 -- The places: the start, before and after the first window is known; a turn of the loop, once its window is known, and
 -- after the call; and past the loop.
-abbrev begun : tie.After-slice-known5 Inv-loop μ-loop → tie.Start Inv-loop μ-loop
-begun c = c .before .before .before .before .before .before .before .before
+abbrev begun : tie.After-slice-known3 Inv-loop μ-loop → tie.Start Inv-loop μ-loop
+begun c = c .before .before .before .before .before
 
 abbrev start : tie.At-loop Inv-loop μ-loop → tie.Start Inv-loop μ-loop
 start c = begun (c .before .before)
@@ -34,11 +32,11 @@ start c = begun (c .before .before)
 abbrev in-turn : tie.After-upper-from Inv-loop μ-loop → tie.At-loop Inv-loop μ-loop
 in-turn c = c .before .before .before
 
-abbrev lent : tie.After-shade-window-arg10 Inv-loop μ-loop → tie.After-upper-from Inv-loop μ-loop
-lent c = c .before .before .before .before .before .before .before .before .before .before
+abbrev lent : tie.After-shade-window-arg8 Inv-loop μ-loop → tie.After-upper-from Inv-loop μ-loop
+lent c = c .before .before .before .before .before .before .before .before
 
-abbrev called : tie.After-slice-known10 Inv-loop μ-loop → tie.After-shade-window Inv-loop μ-loop
-called c = c .before .before .before .before .before .before .before .before .before .before .before
+abbrev called : tie.After-slice-known6 Inv-loop μ-loop → tie.After-shade-window Inv-loop μ-loop
+called c = c .before .before .before .before .before .before .before
 
 seen-in-requires : tie.Need-seen-in-requires Inv-loop μ-loop
 seen-in-requires c κs = let p = begun c .pre .1 in (p .0 .heights, (p .1 .0, omega arith))
@@ -46,7 +44,7 @@ seen-in-requires c κs = let p = begun c .pre .1 in (p .0 .heights, (p .1 .0, om
 loop-holds : tie.Need-loop-holds Inv-loop μ-loop
 loop-holds c =
     let p = begun (c .before) .pre .1 .1 in
-    (left-begins (p .0) _ (c .seen-in .ensures), refl, refl, refl, refl, refl, p .1 .1)
+    (left-begins (p .0) _ (c .seen-in .ensures), refl, refl, refl, p .1 .1)
 
 upper-from-requires : tie.Need-upper-from-requires Inv-loop μ-loop
 upper-from-requires c κs = c .if1 .taken
@@ -68,11 +66,9 @@ shade-window-requires c κs =
             (
               omega (arith, i .1, r .0),
               omega (arith, i .2, r .1),
-              omega (arith, i .3, i .2, r .2),
-              omega (arith, i .4, r .3),
-              omega (arith, i .5, i .4, r .4),
+              omega (arith, i .3, r .2),
             ),
-            (record { some = e .upper-from .ensures .1; in-grid = i .0 .in-grid }, i .6),
+            (record { some = e .upper-from .ensures .1; in-grid = i .0 .in-grid }, i .4),
           ),
         ),
       ),
@@ -96,14 +92,12 @@ loop-again c =
     let e = lent (k .before) in
     let l = in-turn e in
     let i = l .loop .inv in
-    let kept = v .kept .1 .1 .1 .1 .1 .1 in (
+    let kept = v .kept .1 .1 .1 .1 .1 in (
       left-next (start l .pre .1 .1 .0) _ (i .0) (e .upper-from .ensures .1) (v .ensures .0) (c .seen-in2 .ensures)
           (kept .0),
       kept .1 .0 ∙ i .1,
       kept .1 .1 .0 ∙ i .2,
       kept .1 .1 .1 .0 ∙ i .3,
-      kept .1 .1 .1 .1 .0 ∙ i .4,
-      kept .1 .1 .1 .1 .1 .0 ∙ i .5,
       v .ensures .1,
     )
 
@@ -119,17 +113,11 @@ same-length-3 c = c .before .before .loop .inv .2
 same-length-4 : tie.Need-same-length-4 Inv-loop μ-loop
 same-length-4 c = c .before .before .loop .inv .3
 
-same-length-5 : tie.Need-same-length-5 Inv-loop μ-loop
-same-length-5 c = c .before .before .loop .inv .4
-
-same-length-6 : tie.Need-same-length-6 Inv-loop μ-loop
-same-length-6 c = c .before .before .loop .inv .5
-
 returns : tie.Need-returns Inv-loop μ-loop
 returns c =
     let l = c .before .before in
     let i = l .loop .inv in
-    (left-done (start l .pre .1 .1 .0) (i .0) (omega (arith, c .if1 .left)), i .6)
+    (left-done (start l .pre .1 .1 .0) (i .0) (omega (arith, c .if1 .left)), i .4)
 
 pub visit-sixteen-spec : {M : Type 1} → statement M
 visit-sixteen-spec =
@@ -148,6 +136,4 @@ visit-sixteen-spec =
     same-length-2
     same-length-3
     same-length-4
-    same-length-5
-    same-length-6
     returns)

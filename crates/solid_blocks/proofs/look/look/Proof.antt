@@ -14,7 +14,7 @@ use Rattle.solid_blocks.proofs.look.look.Tie as tie
 -- The places: the start, once the region is known to be seen, the box, once its range is there, and that, once there is
 -- a verdict.
 abbrev start : tie.Else1 → tie.Start
-start c = c .before .before .before .before .before .before .before .before .before .before
+start c = c .before .before .before .before .before .before .before .before
 
 abbrev ranged : tie.After-verdict-on → tie.After-run-ranges
 ranged c = c .before .before .before
@@ -22,11 +22,11 @@ ranged c = c .before .before .before
 abbrev with-box : tie.After-run-ranges → tie.After-solid-bounds
 with-box c = c .before .before
 
-abbrev lent : tie.After-cut-arg3 → tie.After-verdict-on
-lent c = c .before .before .before .before .before
+abbrev lent : tie.After-cut-arg2 → tie.After-verdict-on
+lent c = c .before .before .before .before
 
-abbrev after-cut : tie.After-slice-known9 → tie.After-cut
-after-cut c = c .before .before .before .before .before .before
+abbrev after-cut : tie.After-slice-known7 → tie.After-cut
+after-cut c = c .before .before .before .before
 
 seen : (c : tie.Else1)
     → Hidden Same (gridIn (start c .args .grid) true) (regionIn (start c .args .c)) (start c .args .picture .now) false
@@ -125,15 +125,12 @@ same-length-8 c = search needs
 returns-4 : tie.Need-returns-4
 returns-4 c =
     let k = after-cut c in
-    let told = k .before .before .before .before in
+    let told = k .before .before .before in
     let v = lent (k .before) in
     let j = ranged v in
     let b = with-box j in
     opened true (b .solid-bounds .ensures) (seen (b .before)) (j .run-ranges .ensures)
     (mixed-of _ (v .verdict-on .ensures) (told .enum-told3 .given .1)) (k .cut .ensures)
-
-same-length-9 : tie.Need-same-length-9
-same-length-9 c = search needs
 
 pub look-spec : {M : Type 1} → statement M
 look-spec =
@@ -159,5 +156,4 @@ look-spec =
     same-length-6
     same-length-7
     same-length-8
-    same-length-9
     returns-4)
