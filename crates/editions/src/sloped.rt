@@ -2,7 +2,7 @@
 // the levels that the drawing has left.
 use code::unpack::unpack_words;
 use picture::grid::Grid;
-use shading::sixteens::shade;
+use slope_blocks::sixteens::shade;
 use solid_tiles::tiles::tile_solid;
 use tape::CLAUSE_LIMIT;
 use tape::FIRST_CLAUSES;

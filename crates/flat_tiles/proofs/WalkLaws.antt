@@ -13,7 +13,7 @@ use Rattle.picture.proofs.BitShows.{blank-shows, shows-packed}
 use Rattle.walk.specs.Walks.{Shown, Folds, Walked}
 use Rattle.walk.proofs.Children.{tiles-flat}
 use Rattle.walk.proofs.WalkLaws.{walk-shown}
-use Rattle.flat_blocks.specs.Sides.{below64}
+use Rattle.flat_eights.specs.Sides.{below64}
 
 module _ {ws : List ℕ} {grid : Grid} (e : gridFault false (gridIn grid false) ≡ 0) {most c : ℕ} {b b′ : List ℕ}
     (f : Folds false most ws grid below64 (alongY 8 8 0 0 0 64 (grid .width) (grid .height)) b b′ c)

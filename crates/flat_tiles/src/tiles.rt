@@ -1,6 +1,6 @@
 // Side 64: the tiles of a rectangle, and the whole drawing.
-use flat_blocks::eights::eights;
-use flat_blocks::look::look;
+use flat_eights::eights::eights;
+use flat_eights::look::look;
 use picture::bits::clear;
 use picture::grid::Grid;
 use tape::SLOT_LIMIT;
@@ -15,7 +15,7 @@ ghost use Rattle.rules.specs.Drawings.{flatBound, region, alongX, alongY};
 ghost use Rattle.picture.specs.Parts.{Blank, Apart};
 ghost use Rattle.walk.specs.Cells.{Ready, InGrid};
 ghost use Rattle.walk.specs.Walks.{Level, MarksFit, Visits, Folds, Walked};
-ghost use Rattle.flat_blocks.specs.Sides.{below64};
+ghost use Rattle.flat_eights.specs.Sides.{below64};
 ghost use Rattle.flat_tiles.specs.Rects.{RectIn, tilesEnd};
 
 // At most 4,161 runs: the tile, 64 of side 8 and 4,096 samples.

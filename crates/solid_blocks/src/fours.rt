@@ -1,17 +1,17 @@
 // Side 4: the regions of side 4 in one of side 16.
 use crate::look::look;
-use kids::children::child;
-use kids::children::child_count;
 use picture::grid::Grid;
 use shortening::marks::mark_room;
 use solid_samples::samples::sample_layers;
 use walk::cell::Cell;
+use walk::children::child;
+use walk::children::child_count;
 use walk::look::Seen;
 ghost use mathlib.Core.Path.{_≡_};
 ghost use mathlib.Core.Bool.{true};
 ghost use Prim.Native.Nat.{_*_, _≤_};
 ghost use lib.ListN.{length};
-ghost use Rattle.kids.specs.Children.{childrenIn};
+ghost use Rattle.walk.specs.Children.{childrenIn};
 ghost use Rattle.walk.specs.Cells.{Ready, CellOk, regionIn};
 ghost use Rattle.walk.specs.Walks.{Level, MarksFit, Visits, Folds};
 ghost use Rattle.solid_blocks.specs.Sides.{below4};

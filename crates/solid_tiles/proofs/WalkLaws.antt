@@ -12,8 +12,8 @@ use Rattle.picture.specs.declared.grid.Grid.{Grid}
 use Rattle.walk.specs.Cells.{CellOf}
 use Rattle.walk.specs.Walks.{Folds, Walked}
 use Rattle.walk.specs.declared.cell.Cell.{Cell}
-use Rattle.kids.specs.Children.{childrenIn}
-use Rattle.kids.proofs.ChildLaws.{children-in}
+use Rattle.walk.specs.Children.{childrenIn}
+use Rattle.walk.proofs.ChildLaws.{children-in}
 use Rattle.walk.proofs.WalkLaws.{walk-shown}
 use Rattle.solid_blocks.specs.Sides.{below64}
 

@@ -1,19 +1,19 @@
 // Side 64: the tiles of the grid, and the whole drawing.
-use kids::children::child;
-use kids::children::child_count;
 use picture::grid::Grid;
 use picture::heights::clear;
 use solid_blocks::look::look;
 use solid_blocks::sixteens::sixteens;
 use walk::cell::Cell;
 use walk::cell::cell_at;
+use walk::children::child;
+use walk::children::child_count;
 use walk::look::Seen;
 ghost use mathlib.Core.Path.{_≡_};
 ghost use mathlib.Core.Bool.{true};
 ghost use Prim.Native.Nat.{_*_, _≤_};
 ghost use lib.ListN.{length};
 ghost use Rattle.rules.specs.Drawings.{sizeLimit, solidBound};
-ghost use Rattle.kids.specs.Children.{childrenIn};
+ghost use Rattle.walk.specs.Children.{childrenIn};
 ghost use Rattle.walk.specs.Cells.{Ready, CellOk, regionIn};
 ghost use Rattle.walk.specs.Walks.{Level, MarksFit, Visits, Folds, Walked};
 ghost use Rattle.solid_blocks.specs.Sides.{below64};

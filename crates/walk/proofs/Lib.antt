@@ -11,3 +11,8 @@ pub mod LookLaws
 pub mod Places
 pub mod Loops
 pub mod WalkLaws
+pub mod Numbered
+pub mod ChildLaws
+pub mod ChildLoop
+pub mod Clear
+pub mod OpenLaws

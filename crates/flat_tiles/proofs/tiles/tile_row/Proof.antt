@@ -12,7 +12,7 @@ use Rattle.walk.proofs.CellLaws.{ready-small}
 use Rattle.walk.proofs.LookLaws.{sound-length}
 use Rattle.walk.proofs.Loops.{AtColumn, row-begins, row-again, row-done}
 use Rattle.walk.proofs.Places.{up-sum, ready-again}
-use Rattle.flat_blocks.specs.Sides.{below64}
+use Rattle.flat_eights.specs.Sides.{below64}
 use Rattle.flat_tiles.specs.Rects.{tilesEnd}
 use Rattle.flat_tiles.proofs.tiles.tile_row.Statement.{statement}
 use Rattle.flat_tiles.proofs.tiles.tile_row.Tie as tie

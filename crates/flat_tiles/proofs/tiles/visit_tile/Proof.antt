@@ -10,10 +10,10 @@ use Rattle.walk.specs.Cells.{CellOf, regionIn}
 use Rattle.walk.specs.Walks.{Opened}
 use Rattle.walk.proofs.CellLaws.{ready-small}
 use Rattle.walk.proofs.LookLaws.{sound-length, done-of, open-of, done-visits, open-level, open-fewer, open-visits}
-use Rattle.kids.proofs.ChildLaws.{children-in}
+use Rattle.walk.proofs.ChildLaws.{children-in}
 use Rattle.walk.proofs.Places.{ready-again}
-use Rattle.flat_blocks.specs.Sides.{below8}
-use Rattle.flat_blocks.proofs.CellParts.{cell-blank, cell-apart, side-apart}
+use Rattle.flat_eights.specs.Sides.{below8}
+use Rattle.flat_eights.proofs.CellParts.{cell-blank, cell-apart, side-apart}
 use borrow.Author.Needs.{needs}
 use Rattle.flat_tiles.proofs.tiles.visit_tile.Statement.{statement}
 use Rattle.flat_tiles.proofs.tiles.visit_tile.Tie as tie

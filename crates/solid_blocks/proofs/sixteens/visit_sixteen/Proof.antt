@@ -7,7 +7,7 @@ use lib.ListN.{length}
 use Rattle.walk.specs.Cells.{regionIn}
 use Rattle.walk.specs.Walks.{Opened}
 use Rattle.walk.proofs.LookLaws.{sound-length, done-of, open-of, done-visits, open-level, open-fewer}
-use Rattle.kids.proofs.OpenLaws.{open-children}
+use Rattle.walk.proofs.OpenLaws.{open-children}
 use Rattle.walk.proofs.Places.{ready-again}
 use Rattle.solid_blocks.specs.Sides.{below4}
 use borrow.Author.Needs.{needs}

@@ -8,9 +8,9 @@ use Rattle.rules.specs.Drawings.{solidBound}
 use Rattle.walk.proofs.CellLaws.{ready-small}
 use Rattle.walk.proofs.LookLaws.{sound-length}
 use Rattle.walk.proofs.Places.{ready-again}
-use Rattle.kids.specs.Children.{Parent, childrenIn}
-use Rattle.kids.proofs.ChildLaws.{parent-of, children-few}
-use Rattle.kids.proofs.ChildLoop.{AtChild, child-begins, child-sum, child-again, child-done}
+use Rattle.walk.specs.Children.{Parent, childrenIn}
+use Rattle.walk.proofs.ChildLaws.{parent-of, children-few}
+use Rattle.walk.proofs.ChildLoop.{AtChild, child-begins, child-sum, child-again, child-done}
 use Rattle.solid_blocks.specs.Sides.{below64}
 use Rattle.solid_tiles.proofs.tiles.tiles.Statement.{statement}
 use Rattle.solid_tiles.proofs.tiles.tiles.Tie as tie

@@ -8,7 +8,7 @@ use Rattle.rules.specs.Drawings.{solidBound}
 use Rattle.walk.specs.Cells.{regionIn}
 use Rattle.walk.specs.Walks.{Opened}
 use Rattle.walk.proofs.LookLaws.{sound-length, done-of, open-of, done-visits, open-level, open-fewer}
-use Rattle.kids.proofs.OpenLaws.{open-children}
+use Rattle.walk.proofs.OpenLaws.{open-children}
 use Rattle.walk.proofs.Places.{ready-again}
 use Rattle.solid_blocks.specs.Sides.{below16}
 use borrow.Author.Needs.{needs}

@@ -1,2 +1,0 @@
--- What the children of a region by number are held to.
-pub mod Children

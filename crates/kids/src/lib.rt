@@ -1,2 +1,0 @@
-// The regions of one side in a region, by their number in the walk's order.
-pub mod children;
