@@ -78,7 +78,7 @@ cut-requires c κs =
         s .pre .0 .kept,
         (
           run-chosen (s .pre .0 .sound) (j .run-ranges .ensures),
-          ((r .0 .0, omega (arith, h, r .0 .1)), (r .1)),
+          (record { behind = r .0 .0; within = omega (arith, h, r .0 .1) }, r .1),
         ),
       ),
     )
