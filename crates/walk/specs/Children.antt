@@ -2,7 +2,7 @@
 use mathlib.Core.Path.{_≡_}
 use mathlib.Core.List.{List, _∷_}
 use Prim.Native.Nat.{ℕ, suc, _+_, _-_, _*_, _/_, _≤_, _<_}
-use lib.ListN.{drop}
+use lib.ListN.{length, drop}
 use Rattle.rules.specs.Drawings.{Region, over, alongZ}
 use Rattle.picture.specs.declared.grid.Grid.{Grid}
 use Rattle.walk.specs.Cells.{CellOk, regionIn}
@@ -11,6 +11,12 @@ use Rattle.walk.specs.declared.cell.Cell.{Cell}
 -- How many parts of length n begin before the end.
 abbrev pub partsIn : ℕ → ℕ → ℕ → ℕ
 partsIn from end n = (end - from + n - 1) / n
+
+pub record ToParts (from end n : ℕ) : Type 0 where
+  pub some : from < end
+  pub small : end ≤ 512
+  pub long : 1 ≤ n
+  pub few : n ≤ 512
 
 pub record Axis (from end side : ℕ) : Type 0 where
   pub some : from < end
@@ -32,6 +38,11 @@ unfoldable pub childrenIn : Cell → ℕ → List Region
 childrenIn c n =
     let l = over (c .side) n in
     alongZ l l (c .x) (c .y) (c .z) n (c .xend) (c .yend) (c .zend)
+
+-- There is a child number m.
+pub record HasChild (p : Cell) (n m : ℕ) : Type 0 where
+  pub parent : Parent p n
+  pub more : m < length (childrenIn p n)
 
 -- Child number m: the next of the list, in the grid as its parent is, and within its parent.
 pub record ChildOf (p : Cell) (n m : ℕ) (c : Cell) : Type 0 where
