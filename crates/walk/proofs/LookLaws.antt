@@ -15,15 +15,15 @@ use Rattle.rules.proofs.Short.{short-length}
 use Rattle.rules.proofs.ShortAccepted.{short-accepted}
 use Rattle.fixed.specs.Shapes.{rangeIn}
 use Rattle.code.specs.Words.{tapeIn, Runnable}
-use Rattle.code.specs.Runs.{Fit}
+use Rattle.code.specs.Runs.{Fit, BoxOk}
 use Rattle.code.proofs.WordTapes.{words-run, words-runnable, length-clauses}
 use Rattle.picture.specs.Shapes.{gridIn}
 use Rattle.picture.specs.declared.grid.Grid.{Grid}
-use Rattle.walk.specs.Cells.{CellOf, regionIn, CellBox}
+use Rattle.walk.specs.Cells.{CellIn, CellOf, regionIn, CellBox}
 use Rattle.walk.specs.Draws.{Draws, Fills, Hidden}
 use Rattle.walk.specs.Verdicts.{IsMixed}
-use Rattle.walk.specs.Judges.{OutcomeOf, IsJudged}
-use Rattle.walk.specs.Walks.{Sound, Level, Shown, Visits, Folds, Finished, Opened, Looked}
+use Rattle.walk.specs.Judges.{ToJudge, OutcomeOf, IsJudged}
+use Rattle.walk.specs.Walks.{Sound, Level, Shown, Visits, Folds, ToLook, Finished, Opened, Looked}
 use Rattle.walk.specs.declared.cell.Cell.{Cell}
 use Rattle.walk.specs.declared.look.Seen.{Seen}
 use Rattle.walk.specs.declared.look.Seen.the-variants.{Done, Open}
@@ -42,6 +42,15 @@ sound-runs {ws} s = words-runnable (s .slots) ws (s .accepted)
 
 pub sound-length : {ws : List ℕ} → Sound ws → length ws ≤ clauseLimit
 sound-length {ws} s = omega (arith, s .accepted .clauses, length-clauses ws)
+
+-- What a look hands on: its cell, whose box is made, and with that box the judge.
+module _ {isSolid : Bool} {whole ws : List ℕ} {grid : Grid} {c : Cell} {b work next : List ℕ} {base : ℕ}
+    (p : ToLook isSolid whole ws grid c b work base next) where
+  pub look-cell : CellIn isSolid grid c
+  look-cell = record { fault = p .ready .fault; ok = p .cell }
+
+  pub look-judge : {box : Box} → BoxOk box → ToJudge whole ws box work base next
+  look-judge k = record { level = p .level; box = k; marks = p .marks; words = p .words }
 
 module _ (isSolid : Bool) {ws : List ℕ} {grid : Grid} {r : Region} {b : List ℕ} where
   pub done-hidden : Hidden (Shown isSolid grid) (gridIn grid isSolid) r b true → Finished isSolid ws grid r b b 0
