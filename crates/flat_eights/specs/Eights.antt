@@ -9,23 +9,23 @@ use Rattle.rules.specs.Tapes.{slotLimit}
 use Rattle.picture.specs.Parts.{Blank}
 use Rattle.picture.specs.declared.grid.Grid.{Grid}
 use Rattle.walk.specs.Cells.{Ready, CellOk}
-use Rattle.walk.specs.Walks.{Level, MarksFit, ToLook}
+use Rattle.walk.specs.Walks.{Level, MarksFit, ForLook}
 use Rattle.walk.specs.declared.cell.Cell.{Cell}
 
 -- Filling a cell whose columns begin at a byte.
-pub record ToFill (grid : Grid) (c : Cell) (b : List ℕ) : Type 0 where
+pub record ForFill (grid : Grid) (c : Cell) (b : List ℕ) : Type 0 where
   pub ready : Ready false grid b
   pub cell : CellOk 1 grid c
   pub even : c .x % 8 ≡ 0
 
 -- A look at such a cell.
-pub record ToLookFlat (whole ws : List ℕ) (grid : Grid) (c : Cell) (b work : List ℕ) (base : ℕ) (next : List ℕ)
+pub record ForFlatLook (whole ws : List ℕ) (grid : Grid) (c : Cell) (b work : List ℕ) (base : ℕ) (next : List ℕ)
     : Type 0 where
-  pub look : ToLook false whole ws grid c b work base next
+  pub look : ForLook false whole ws grid c b work base next
   pub even : c .x % 8 ≡ 0
 
 -- A cell of side n whose bytes are 0, to be visited or with children of side 8.
-pub record AtEight (n : ℕ) (whole ws : List ℕ) (grid : Grid) (c : Cell) (b work next : List ℕ)
+pub record ForEights (n : ℕ) (whole ws : List ℕ) (grid : Grid) (c : Cell) (b work next : List ℕ)
     (lanes : List (List ℤ)) : Type 0 where
   pub level : Level whole ws
   pub ready : Ready false grid b

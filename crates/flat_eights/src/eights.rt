@@ -17,7 +17,7 @@ ghost use Rattle.walk.specs.Children.{childrenIn};
 ghost use Rattle.picture.specs.Parts.{Apart};
 ghost use Rattle.walk.specs.Cells.{regionIn};
 ghost use Rattle.walk.specs.Walks.{Visits, Folds};
-ghost use Rattle.flat_eights.specs.Eights.{AtEight};
+ghost use Rattle.flat_eights.specs.Eights.{ForEights};
 ghost use Rattle.flat_eights.specs.Sides.{below8};
 
 // At most 65 runs: the region and 64 samples.
@@ -31,7 +31,7 @@ fn visit_eight(
     second: &mut [u64],
     slots: &mut [[i32; 8]; SLOT_LIMIT],
 ) -> u64
-    requires { ⌜ AtEight 8 (now whole) (now code) grid cell
+    requires { ⌜ ForEights 8 (now whole) (now code) grid cell
         (now picture) (now work) (now second) (now slots) ⌝ }
     ensures { λ r. ⌜ Visits false 65 (now (code .entry)) grid below8 (regionIn cell)
         (now (picture .entry)) (now (picture .exit)) r ⌝ }
@@ -61,7 +61,7 @@ pub fn eights(
     second: &mut [u64],
     slots: &mut [[i32; 8]; SLOT_LIMIT],
 ) -> u64
-    requires { ⌜ AtEight 64 (now whole) (now code) grid parent
+    requires { ⌜ ForEights 64 (now whole) (now code) grid parent
         (now picture) (now work) (now second) (now slots) ⌝ }
     ensures { λ r. ⌜ Folds false (64 * 65) (now (code .entry)) grid below8 (childrenIn parent 8)
         (now (picture .entry)) (now (picture .exit)) r ⌝ }

@@ -13,10 +13,10 @@ ghost use Rattle.picture.specs.Shapes.{gridIn};
 ghost use Rattle.walk.specs.Cells.{regionIn};
 ghost use Rattle.walk.specs.Draws.{Fills};
 ghost use Rattle.walk.specs.Walks.{Shown, Looked};
-ghost use Rattle.flat_eights.specs.Eights.{ToFill, ToLookFlat};
+ghost use Rattle.flat_eights.specs.Eights.{ForFill, ForFlatLook};
 
 fn fill(grid: Grid, c: Cell, picture: &mut [u8])
-    requires { ⌜ ToFill grid c (now picture) ⌝ }
+    requires { ⌜ ForFill grid c (now picture) ⌝ }
     ensures { λ _. ⌜ Fills (Shown false grid) (gridIn grid false) (regionIn c)
         (now (picture .entry)) (now (picture .exit)) ⌝ }
     ensures { λ _. ⌜ Apart (grid .width) (c .x) (c .xend) (c .y) (c .yend) (now (picture .entry))
@@ -44,7 +44,7 @@ pub fn look(
     base: usize,
     next: &mut [u64],
 ) -> Seen
-    requires { ⌜ ToLookFlat (now whole) (now code) grid c (now picture) (now work) base (now next) ⌝ }
+    requires { ⌜ ForFlatLook (now whole) (now code) grid c (now picture) (now work) base (now next) ⌝ }
     ensures { λ r. ⌜ Looked false (now (whole .entry)) (now (code .entry)) grid (regionIn c)
         (now (picture .entry)) (now (picture .exit)) base (now (work .exit)) (now (next .exit)) r ⌝ }
     ensures { λ _. ⌜ Apart (grid .width) (c .x) (c .x + c .side) (c .y) (c .y + c .side) (now (picture .entry))

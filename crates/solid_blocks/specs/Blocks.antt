@@ -10,7 +10,7 @@ use Rattle.walk.specs.Cells.{Ready, CellOk}
 use Rattle.walk.specs.Walks.{Level, MarksFit}
 use Rattle.walk.specs.declared.cell.Cell.{Cell}
 
-pub record AtFour (n : ℕ) (whole ws : List ℕ) (grid : Grid) (c : Cell) (b work l₃ : List ℕ) : Type 0 where
+pub record ForFours (n : ℕ) (whole ws : List ℕ) (grid : Grid) (c : Cell) (b work l₃ : List ℕ) : Type 0 where
   pub level : Level whole ws
   pub ready : Ready true grid b
   pub cell : CellOk (grid .depth) grid c
@@ -18,7 +18,7 @@ pub record AtFour (n : ℕ) (whole ws : List ℕ) (grid : Grid) (c : Cell) (b wo
   pub room : MarksFit 3 whole work
   pub third : length whole ≤ length l₃
 
-pub record AtSixteen (n : ℕ) (whole ws : List ℕ) (grid : Grid) (c : Cell) (b work l₂ l₃ : List ℕ) : Type 0 where
+pub record ForSixteens (n : ℕ) (whole ws : List ℕ) (grid : Grid) (c : Cell) (b work l₂ l₃ : List ℕ) : Type 0 where
   pub level : Level whole ws
   pub ready : Ready true grid b
   pub cell : CellOk (grid .depth) grid c

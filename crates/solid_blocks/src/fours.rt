@@ -12,7 +12,7 @@ ghost use Prim.Native.Nat.{_*_};
 ghost use Rattle.walk.specs.Children.{childrenIn};
 ghost use Rattle.walk.specs.Cells.{regionIn};
 ghost use Rattle.walk.specs.Walks.{Visits, Folds};
-ghost use Rattle.solid_blocks.specs.Blocks.{AtFour};
+ghost use Rattle.solid_blocks.specs.Blocks.{ForFours};
 ghost use Rattle.solid_blocks.specs.Sides.{below4};
 
 // At most 65 runs: the region and 64 samples.
@@ -25,7 +25,7 @@ fn visit_four(
     work: &mut [u8],
     third: &mut [u64],
 ) -> u64
-    requires { ⌜ AtFour 4 (now whole) (now code) grid cell (now picture) (now work) (now third) ⌝ }
+    requires { ⌜ ForFours 4 (now whole) (now code) grid cell (now picture) (now work) (now third) ⌝ }
     ensures { λ r. ⌜ Visits true 65 (now (code .entry)) grid below4 (regionIn cell)
         (now (picture .entry)) (now (picture .exit)) r ⌝ }
 {
@@ -51,7 +51,7 @@ pub fn fours(
     work: &mut [u8],
     third: &mut [u64],
 ) -> u64
-    requires { ⌜ AtFour 16 (now whole) (now code) grid parent (now picture) (now work) (now third) ⌝ }
+    requires { ⌜ ForFours 16 (now whole) (now code) grid parent (now picture) (now work) (now third) ⌝ }
     ensures { λ r. ⌜ Folds true (64 * 65) (now (code .entry)) grid below4 (childrenIn parent 4)
         (now (picture .entry)) (now (picture .exit)) r ⌝ }
 {

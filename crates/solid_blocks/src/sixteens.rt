@@ -12,7 +12,7 @@ ghost use Prim.Native.Nat.{_*_};
 ghost use Rattle.walk.specs.Children.{childrenIn};
 ghost use Rattle.walk.specs.Cells.{regionIn};
 ghost use Rattle.walk.specs.Walks.{Visits, Folds};
-ghost use Rattle.solid_blocks.specs.Blocks.{AtSixteen};
+ghost use Rattle.solid_blocks.specs.Blocks.{ForSixteens};
 ghost use Rattle.solid_blocks.specs.Sides.{below16};
 
 // At most 4,161 runs: the region, 64 of side 4 and 4,096 samples.
@@ -26,7 +26,7 @@ fn visit_sixteen(
     second: &mut [u64],
     third: &mut [u64],
 ) -> u64
-    requires { ⌜ AtSixteen 16 (now whole) (now code) grid cell
+    requires { ⌜ ForSixteens 16 (now whole) (now code) grid cell
         (now picture) (now work) (now second) (now third) ⌝ }
     ensures { λ r. ⌜ Visits true 4161 (now (code .entry)) grid below16 (regionIn cell)
         (now (picture .entry)) (now (picture .exit)) r ⌝ }
@@ -53,7 +53,7 @@ pub fn sixteens(
     second: &mut [u64],
     third: &mut [u64],
 ) -> u64
-    requires { ⌜ AtSixteen 64 (now whole) (now code) grid parent
+    requires { ⌜ ForSixteens 64 (now whole) (now code) grid parent
         (now picture) (now work) (now second) (now third) ⌝ }
     ensures { λ r. ⌜ Folds true (64 * 4161) (now (code .entry)) grid below16 (childrenIn parent 16)
         (now (picture .entry)) (now (picture .exit)) r ⌝ }

@@ -10,31 +10,31 @@ use Rattle.walk.specs.Cells.{Ready, InGrid, CellOk}
 use Rattle.walk.specs.Walks.{Sound}
 use Rattle.walk.specs.declared.cell.Cell.{Cell}
 
-pub record ToRows (grid : Grid) (c : Cell) (b : List ℕ) : Type 0 where
+pub record ForRows (grid : Grid) (c : Cell) (b : List ℕ) : Type 0 where
   pub ready : Ready true grid b
   pub cell : CellOk (grid .depth) grid c
 
 -- One sample.
-pub record ToSample (ws : List ℕ) (grid : Grid) (x y z : ℕ) (vs : List ℤ) (b : List ℕ) : Type 0 where
+pub record ForSample (ws : List ℕ) (grid : Grid) (x y z : ℕ) (vs : List ℤ) (b : List ℕ) : Type 0 where
   pub sound : Sound ws
   pub ready : Ready true grid b
   pub place : InGrid (grid .depth) grid x y z
   pub slots : Lent vs
 
 -- The samples of a region of side 4; those of its layer z; and of that layer's row y.
-pub record ToSamples (ws : List ℕ) (grid : Grid) (c : Cell) (b : List ℕ) : Type 0 where
+pub record ForSamples (ws : List ℕ) (grid : Grid) (c : Cell) (b : List ℕ) : Type 0 where
   pub sound : Sound ws
   pub ready : Ready true grid b
   pub cell : CellOk (grid .depth) grid c
   pub side : c .side ≡ 4
 
-pub record ToLayer (ws : List ℕ) (grid : Grid) (c : Cell) (z : ℕ) (vs : List ℤ) (b : List ℕ) : Type 0 where
-  pub all : ToSamples ws grid c b
+pub record ForLayer (ws : List ℕ) (grid : Grid) (c : Cell) (z : ℕ) (vs : List ℤ) (b : List ℕ) : Type 0 where
+  pub all : ForSamples ws grid c b
   pub z-in : z < c .zend
   pub slots : Lent vs
 
-pub record ToRow (ws : List ℕ) (grid : Grid) (c : Cell) (y z : ℕ) (vs : List ℤ) (b : List ℕ) : Type 0 where
-  pub all : ToSamples ws grid c b
+pub record ForRow (ws : List ℕ) (grid : Grid) (c : Cell) (y z : ℕ) (vs : List ℤ) (b : List ℕ) : Type 0 where
+  pub all : ForSamples ws grid c b
   pub y-in : y < c .yend
   pub z-in : z < c .zend
   pub slots : Lent vs

@@ -10,7 +10,7 @@ use Rattle.walk.specs.Cells.{Ready, CellOk}
 use Rattle.walk.specs.Walks.{Level, MarksFit}
 use Rattle.walk.specs.declared.cell.Cell.{Cell}
 
-pub record ToTile (whole : List ℕ) (grid : Grid) (b work l₁ l₂ l₃ : List ℕ) : Type 0 where
+pub record ForSolid (whole : List ℕ) (grid : Grid) (b work l₁ l₂ l₃ : List ℕ) : Type 0 where
   pub level : Level whole whole
   pub ready : Ready true grid b
   pub room : MarksFit 3 whole work
@@ -19,7 +19,7 @@ pub record ToTile (whole : List ℕ) (grid : Grid) (b work l₁ l₂ l₃ : List
   pub third : length whole ≤ length l₃
 
 -- At a cell of side n.
-pub record AtTile (n : ℕ) (whole : List ℕ) (grid : Grid) (c : Cell) (b work l₁ l₂ l₃ : List ℕ) : Type 0 where
-  pub tile : ToTile whole grid b work l₁ l₂ l₃
+pub record ForTiles (n : ℕ) (whole : List ℕ) (grid : Grid) (c : Cell) (b work l₁ l₂ l₃ : List ℕ) : Type 0 where
+  pub tile : ForSolid whole grid b work l₁ l₂ l₃
   pub cell : CellOk (grid .depth) grid c
   pub side : c .side ≡ n

@@ -15,7 +15,7 @@ ghost use Rattle.walk.specs.Children.{childrenIn};
 ghost use Rattle.walk.specs.Cells.{regionIn};
 ghost use Rattle.walk.specs.Walks.{Visits, Folds, Walked};
 ghost use Rattle.solid_blocks.specs.Sides.{below64};
-ghost use Rattle.solid_tiles.specs.Tiles.{ToTile, AtTile};
+ghost use Rattle.solid_tiles.specs.Tiles.{ForSolid, ForTiles};
 
 // At most 266,305 runs: the tile, 64 of side 16, 4,096 of side 4 and 262,144 samples.
 pub fn visit_tile(
@@ -28,7 +28,7 @@ pub fn visit_tile(
     second: &mut [u64],
     third: &mut [u64],
 ) -> u64
-    requires { ⌜ AtTile 64 (now whole) grid cell
+    requires { ⌜ ForTiles 64 (now whole) grid cell
         (now picture) (now work) (now first) (now second) (now third) ⌝ }
     ensures { λ r. ⌜ Visits true solidBound (now (whole .entry)) grid below64 (regionIn cell)
         (now (picture .entry)) (now (picture .exit)) r ⌝ }
@@ -54,7 +54,7 @@ fn tiles(
     second: &mut [u64],
     third: &mut [u64],
 ) -> u64
-    requires { ⌜ AtTile sizeLimit (now whole) grid parent
+    requires { ⌜ ForTiles sizeLimit (now whole) grid parent
         (now picture) (now work) (now first) (now second) (now third) ⌝ }
     ensures { λ r. ⌜ Folds true (512 * solidBound) (now (whole .entry)) grid below64 (childrenIn parent 64)
         (now (picture .entry)) (now (picture .exit)) r ⌝ }
@@ -81,7 +81,7 @@ pub fn tile_solid(
     second: &mut [u64],
     third: &mut [u64],
 ) -> u64
-    requires { ⌜ ToTile (now whole) grid (now picture) (now work) (now first) (now second) (now third) ⌝ }
+    requires { ⌜ ForSolid (now whole) grid (now picture) (now work) (now first) (now second) (now third) ⌝ }
     ensures { λ r. ⌜ Walked true (now (whole .entry)) grid (now (picture .exit)) r ⌝ }
 {
     clear(picture);

@@ -16,14 +16,15 @@ use Rattle.rules.proofs.ShortAccepted.{short-accepted}
 use Rattle.fixed.specs.Shapes.{rangeIn}
 use Rattle.code.specs.Words.{tapeIn, Runnable}
 use Rattle.code.specs.Runs.{Fit, BoxOk}
+use Rattle.shortening.specs.Kept.{Kept}
 use Rattle.code.proofs.WordTapes.{words-run, words-runnable, length-clauses}
 use Rattle.picture.specs.Shapes.{gridIn}
 use Rattle.picture.specs.declared.grid.Grid.{Grid}
-use Rattle.walk.specs.Cells.{CellIn, CellOf, regionIn, CellBox}
+use Rattle.walk.specs.Cells.{ForBox, CellOf, regionIn, CellBox}
 use Rattle.walk.specs.Draws.{Draws, Fills, Hidden}
-use Rattle.walk.specs.Verdicts.{IsMixed}
-use Rattle.walk.specs.Judges.{ToJudge, OutcomeOf, IsJudged}
-use Rattle.walk.specs.Walks.{Sound, Level, Shown, Visits, Folds, ToLook, Finished, Opened, Looked}
+use Rattle.walk.specs.Verdicts.{IsMixed, CutOver}
+use Rattle.walk.specs.Judges.{ForJudge, OutcomeOf, IsJudged}
+use Rattle.walk.specs.Walks.{Sound, Level, Shown, Visits, Folds, ForLook, Finished, Opened, Looked}
 use Rattle.walk.specs.declared.cell.Cell.{Cell}
 use Rattle.walk.specs.declared.look.Seen.{Seen}
 use Rattle.walk.specs.declared.look.Seen.the-variants.{Done, Open}
@@ -45,11 +46,11 @@ sound-length {ws} s = omega (arith, s .accepted .clauses, length-clauses ws)
 
 -- What a look hands on: its cell, whose box is made, and with that box the judge.
 module _ {isSolid : Bool} {whole ws : List ℕ} {grid : Grid} {c : Cell} {b work next : List ℕ} {base : ℕ}
-    (p : ToLook isSolid whole ws grid c b work base next) where
-  pub look-cell : CellIn isSolid grid c
+    (p : ForLook isSolid whole ws grid c b work base next) where
+  pub look-cell : ForBox isSolid grid c
   look-cell = record { fault = p .ready .fault; ok = p .cell }
 
-  pub look-judge : {box : Box} → BoxOk box → ToJudge whole ws box work base next
+  pub look-judge : {box : Box} → BoxOk box → ForJudge whole ws box work base next
   look-judge k = record { level = p .level; box = k; marks = p .marks; words = p .words }
 
 module _ (isSolid : Bool) {ws : List ℕ} {grid : Grid} {r : Region} {b : List ℕ} where
@@ -134,30 +135,36 @@ done-visits {ws = ws} k n ns e h f =
 pub lent-words : (start : ℕ) (next : List ℕ) → take (length next - start) (drop start next) ≡ drop start next
 lent-words start next = take-all (length next - start) (drop start next) (rw length-drop (omega arith))
 
--- After a cut: the short words are sound and no more than the region's, and visiting the children with them is the rest
--- of the visit. If at most k runs are counted of the children, at most k + 1 are of the region.
-module _ {isSolid : Bool} {whole ws : List ℕ} {grid : Grid} {q : Region} {b b₁ work next : List ℕ}
-    {base start : ℕ} (s : Sound ws) (o : Opened isSolid whole ws grid q b b₁ base work next start) where
-  short-again : (n : ℕ) → Accepted (tapeIn n ws) → Accepted (tapeIn n (drop start next))
-  short-again n a =
-      subst Accepted (sym (o .cut .short n (fit-of a))) (short-accepted (tapeIn n ws) a (boxOf (gridIn grid isSolid) q))
+-- After a cut over any box: what the words had as an accepted tape and as kept of the whole tape, the short words have.
+module _ {whole ws work next : List ℕ} {b : Box} {base start : ℕ} (k : CutOver whole ws b base work next start) where
+  pub short-again : (n : ℕ) → Accepted (tapeIn n ws) → Accepted (tapeIn n (drop start next))
+  short-again n a = subst Accepted (sym (k .short n (fit-of a))) (short-accepted (tapeIn n ws) a b)
 
-  pub open-sound : Sound (take (length next - start) (drop start next))
-  open-sound =
-      rw (lent-words start next) (record { slots = s .slots; accepted = short-again (s .slots) (s .accepted) })
+  pub short-kept : Level whole ws → Kept whole (drop start next)
+  short-kept l =
+      let s = l .sound in
+      record { marks = _; kept = k .kept (s .slots) (fit-of (s .accepted)) (l .kept .marks) (l .kept .kept) }
 
-  short-fewer : length (drop start next) ≤ length ws
-  short-fewer =
+  pub short-fewer : Sound ws → length (drop start next) ≤ length ws
+  short-fewer s =
       omega (
         arith,
         length-clauses (drop start next),
         length-clauses ws,
-        ap (λ t. length (t .clauses)) (o .cut .short (s .slots) (fit-of (s .accepted))),
-        short-length (tapeIn (s .slots) ws) (boxOf (gridIn grid isSolid) q),
+        ap (λ t. length (t .clauses)) (k .short (s .slots) (fit-of (s .accepted))),
+        short-length (tapeIn (s .slots) ws) b,
       )
 
+-- After a cut: the short words are sound and no more than the region's, and visiting the children with them is the rest
+-- of the visit. If at most k runs are counted of the children, at most k + 1 are of the region.
+module _ {isSolid : Bool} {whole ws : List ℕ} {grid : Grid} {q : Region} {b b₁ work next : List ℕ}
+    {base start : ℕ} (s : Sound ws) (o : Opened isSolid whole ws grid q b b₁ base work next start) where
+  pub open-sound : Sound (take (length next - start) (drop start next))
+  open-sound =
+      rw (lent-words start next) (record { slots = s .slots; accepted = short-again (o .cut) (s .slots) (s .accepted) })
+
   pub open-fewer : length (take (length next - start) (drop start next)) ≤ length ws
-  open-fewer = rw (lent-words start next) short-fewer
+  open-fewer = rw (lent-words start next) (short-fewer (o .cut) s)
 
   cut-visits : (n : ℕ) (ns : List ℕ) (k : ℕ) {c : ℕ} {qs : List Region} {b′ : List ℕ}
       → children (gridIn grid isSolid) q n ≡ qs
@@ -170,10 +177,10 @@ module _ {isSolid : Bool} {whole ws : List ℕ} {grid : Grid} {q : Region} {b b�
             let g = gridIn grid isSolid in
             let short = tapeIn m (drop start next) in
             let u : Draws (Shown isSolid grid) (fold (λ p y. visit ns short g p y) (children g q n)) b b′ c =
-            rw (h, ← o .same) (f .draws m (short-again m a)) in
+            rw (h, ← o .same) (f .draws m (short-again (o .cut) m a)) in
             draws-count (omega (arith, length-clauses ws))
             (draws-cut (o .seen) (tapeIn m ws) n ns (x .high) (x .low) (rw (o .cut .short m (fit-of a)) at u)));
-        bound = omega (arith, f .bound, mul-le-mul-left k short-fewer);
+        bound = omega (arith, f .bound, mul-le-mul-left k (short-fewer (o .cut) s));
       }
 
   pub open-visits : {r : Region} (n : ℕ) (ns : List ℕ) (k : ℕ) {c : ℕ} {qs : List Region} {b′ : List ℕ} → q ≡ r
@@ -187,12 +194,7 @@ pub open-level : {isSolid : Bool} {whole ws : List ℕ} {grid : Grid} {q : Regio
     {base start : ℕ} → Level whole ws → Opened isSolid whole ws grid q b b₁ base work next start
     → Level whole (take (length next - start) (drop start next))
 open-level {next = next} {start = start} l o =
-    let s = l .sound in
-    record {
-      sound = open-sound s o;
-      kept = rw (lent-words start next)
-          (record { marks = _; kept = o .cut .kept (s .slots) (fit-of (s .accepted)) (l .kept .marks) (l .kept .kept) });
-    }
+    record { sound = open-sound (l .sound) o; kept = rw (lent-words start next) (short-kept (o .cut) l) }
 
 -- The same of a cell whose children are l layers, or l rows, of side n.
 module _ {whole ws : List ℕ} {grid : Grid} {cell : Cell} {r : Region} {b b₁ work next : List ℕ} {base start : ℕ}

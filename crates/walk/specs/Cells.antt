@@ -38,7 +38,7 @@ pub record InGrid (layers : ℕ) (grid : Grid) (x y z : ℕ) : Type 0 where
   pub z-in : z < layers
 
 -- Where a region of side n may begin.
-pub record ToCell (layers : ℕ) (grid : Grid) (x y z n : ℕ) : Type 0 where
+pub record ForCell (layers : ℕ) (grid : Grid) (x y z n : ℕ) : Type 0 where
   pub small : Small layers grid
   pub place : InGrid layers grid x y z
   pub some : 1 ≤ n
@@ -57,7 +57,7 @@ pub record CellOk (layers : ℕ) (grid : Grid) (c : Cell) : Type 0 where
   pub zs : Ends layers (c .z) (c .side) (c .zend)
 
 -- A cell of a grid that no line refuses.
-pub record CellIn (isSolid : Bool) (grid : Grid) (c : Cell) : Type 0 where
+pub record ForBox (isSolid : Bool) (grid : Grid) (c : Cell) : Type 0 where
   pub fault : gridFault isSolid (gridIn grid isSolid) ≡ 0
   pub ok : CellOk (layersIn isSolid grid) grid c
 

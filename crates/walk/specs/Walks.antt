@@ -62,7 +62,7 @@ pub record Finished (isSolid : Bool) (ws : List ℕ) (grid : Grid) (r : Region) 
   pub bound : c ≤ length ws
 
 -- What a look at a region asks: words of a level, a cell of a picture that is ready, and room for marks and words.
-pub record ToLook (isSolid : Bool) (whole ws : List ℕ) (grid : Grid) (c : Cell) (b work : List ℕ) (base : ℕ)
+pub record ForLook (isSolid : Bool) (whole ws : List ℕ) (grid : Grid) (c : Cell) (b work : List ℕ) (base : ℕ)
     (next : List ℕ) : Type 0 where
   pub level : Level whole ws
   pub ready : Ready isSolid grid b

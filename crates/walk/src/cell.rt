@@ -7,7 +7,7 @@ ghost use mathlib.Core.Path.{_≡_};
 ghost use mathlib.Core.Bool.{true, false};
 ghost use Rattle.rules.specs.Drawings.{region, lesser as lesserOf};
 ghost use Rattle.fixed.specs.Shapes.{boxIn, rangeIn};
-ghost use Rattle.walk.specs.Cells.{ToCell, CellIn, CellOf, SpanIn, spanOf, CellBox};
+ghost use Rattle.walk.specs.Cells.{ForCell, ForBox, CellOf, SpanIn, spanOf, CellBox};
 
 // First index and past the last one on each axis, cut off at the grid's edge, and the side before that.
 pub struct Cell {
@@ -28,7 +28,7 @@ pub fn lesser(a: u32, b: u32) -> u32
 
 // `layers` is the grid's depth in a solid, and 1 in a flat drawing.
 pub fn cell_at(grid: Grid, layers: u32, x: u32, y: u32, z: u32, side: u32) -> Cell
-    requires { ⌜ ToCell layers grid x y z side ⌝ }
+    requires { ⌜ ForCell layers grid x y z side ⌝ }
     ensures { λ r. ⌜ CellOf layers grid (region x y z side) r ⌝ }
 {
     Cell {
@@ -55,7 +55,7 @@ pub fn span(origin: i32, step: i32, from: u32, end: u32) -> Span
 
 // The box of a solid's region.
 pub fn solid_bounds(grid: Grid, c: Cell) -> Bounds
-    requires { ⌜ CellIn true grid c ⌝ }
+    requires { ⌜ ForBox true grid c ⌝ }
     ensures { λ r. ⌜ CellBox true grid c (boxIn r) ⌝ }
 {
     Bounds {
@@ -67,7 +67,7 @@ pub fn solid_bounds(grid: Grid, c: Cell) -> Bounds
 
 // The box of a flat region: its one z is the grid's, as given.
 pub fn flat_bounds(grid: Grid, c: Cell) -> Bounds
-    requires { ⌜ CellIn false grid c ⌝ }
+    requires { ⌜ ForBox false grid c ⌝ }
     ensures { λ r. ⌜ CellBox false grid c (boxIn r) ⌝ }
 {
     Bounds {

@@ -1,7 +1,7 @@
 -- The regions of side 8 of a tile.
 use mathlib.Core.Path.{_≡_, refl, _∙_}
 use mathlib.Core.Bool.{false}
-use Prim.Native.Nat.{_+_, _-_, _*_, _%_, _≤_, _<_}
+use Prim.Native.Nat.{_+_, _-_, _*_, _≤_, _<_}
 use native.Mathlib.Omega.{arith}
 use lib.ListN.{length, drop}
 use Rattle.rules.specs.Tapes.{slotLimit}
@@ -10,7 +10,7 @@ use Rattle.picture.proofs.PartLaws.{apart-none}
 use Rattle.walk.proofs.CellLaws.{ready-small}
 use Rattle.walk.proofs.LookLaws.{sound-length}
 use Rattle.walk.proofs.Places.{ready-again}
-use Rattle.walk.specs.Children.{Parent, childrenIn, ChildOf}
+use Rattle.walk.specs.Children.{Parent, childrenIn}
 use Rattle.walk.proofs.ChildLaws.{parent-of, children-few}
 use Rattle.walk.proofs.ChildLoop.{AtChild, child-begins, child-sum, child-again, child-done}
 use Rattle.walk.proofs.Clear.{Clear, clear-begins, child-blank, child-clear, child-apart}

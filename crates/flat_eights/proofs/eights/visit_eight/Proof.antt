@@ -1,12 +1,11 @@
 -- Done by the look, or cut and its samples run.
-use mathlib.Core.Path.{_≡_, refl, sym}
+use mathlib.Core.Path.{refl}
 use mathlib.Core.Bool.{false}
 use mathlib.Core.List.{[]}
 use Prim.Native.Nat.{_+_}
 use native.Mathlib.Omega.{arith}
 use lib.ListN.{length}
-use Rattle.picture.proofs.PartLaws.{apart-then, apart-part}
-use Rattle.picture.specs.Parts.{Apart}
+use Rattle.picture.proofs.PartLaws.{apart-then}
 use Rattle.walk.specs.Cells.{regionIn}
 use Rattle.walk.specs.Walks.{Opened}
 use Rattle.walk.proofs.LookLaws.{sound-length, done-of, open-of, done-visits, open-sound, open-fewer, open-rows}

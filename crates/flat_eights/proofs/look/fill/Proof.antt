@@ -1,5 +1,4 @@
 -- The rows of a cell.
-use mathlib.Core.Bool.{false}
 use native.Mathlib.Omega.{arith}
 use Rattle.flat_samples.proofs.CellRows.{pixels-in, cell-fills}
 use borrow.Author.Needs.{needs}

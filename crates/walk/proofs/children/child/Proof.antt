@@ -1,5 +1,4 @@
 -- The child's place by the digits of its number.
-use mathlib.Core.Path.{_≡_}
 use native.Mathlib.Omega.{arith}
 use Rattle.walk.proofs.ChildLaws.{Spot, spot, child-of}
 use borrow.Author.Needs.{needs}
