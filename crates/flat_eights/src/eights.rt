@@ -10,13 +10,14 @@ use walk::children::child_count;
 use walk::look::Seen;
 ghost use mathlib.Core.Path.{_≡_};
 ghost use mathlib.Core.Bool.{false};
-ghost use Prim.Native.Nat.{_+_, _*_, _%_, _≤_};
+ghost use Prim.Native.Nat.{_+_, _*_};
 ghost use lib.ListN.{length};
 ghost use Rattle.rules.specs.Tapes.{slotLimit};
 ghost use Rattle.walk.specs.Children.{childrenIn};
-ghost use Rattle.picture.specs.Parts.{Blank, Apart};
-ghost use Rattle.walk.specs.Cells.{Ready, CellOk, regionIn};
-ghost use Rattle.walk.specs.Walks.{Level, MarksFit, Visits, Folds};
+ghost use Rattle.picture.specs.Parts.{Apart};
+ghost use Rattle.walk.specs.Cells.{regionIn};
+ghost use Rattle.walk.specs.Walks.{Visits, Folds};
+ghost use Rattle.flat_eights.specs.Eights.{ForEights};
 ghost use Rattle.flat_eights.specs.Sides.{below8};
 
 // At most 65 runs: the region and 64 samples.
@@ -30,13 +31,8 @@ fn visit_eight(
     second: &mut [u64],
     slots: &mut [[i32; 8]; SLOT_LIMIT],
 ) -> u64
-    requires { ⌜ Level (now whole) (now code) ⌝ }
-    requires { ⌜ Ready false grid (now picture) ⌝ }
-    requires { ⌜ CellOk 1 grid cell ⌝ }
-    requires { ⌜ (cell .side ≡ 8) × (cell .x % 8 ≡ 0) ⌝ }
-    requires { ⌜ MarksFit 2 (now whole) (now work) × (length (now whole) ≤ length (now second)) ⌝ }
-    requires { ⌜ length (now slots) ≡ slotLimit ⌝ }
-    requires { ⌜ Blank (grid .width) (cell .x) (cell .x + 8) (cell .y) (cell .y + 8) (now picture) ⌝ }
+    requires { ⌜ ForEights 8 (now whole) (now code) grid cell
+        (now picture) (now work) (now second) (now slots) ⌝ }
     ensures { λ r. ⌜ Visits false 65 (now (code .entry)) grid below8 (regionIn cell)
         (now (picture .entry)) (now (picture .exit)) r ⌝ }
     ensures { λ _. ⌜ length (now (slots .exit)) ≡ slotLimit ⌝ }
@@ -65,13 +61,8 @@ pub fn eights(
     second: &mut [u64],
     slots: &mut [[i32; 8]; SLOT_LIMIT],
 ) -> u64
-    requires { ⌜ Level (now whole) (now code) ⌝ }
-    requires { ⌜ Ready false grid (now picture) ⌝ }
-    requires { ⌜ CellOk 1 grid parent ⌝ }
-    requires { ⌜ (parent .side ≡ 64) × (parent .x % 8 ≡ 0) ⌝ }
-    requires { ⌜ MarksFit 2 (now whole) (now work) × (length (now whole) ≤ length (now second)) ⌝ }
-    requires { ⌜ length (now slots) ≡ slotLimit ⌝ }
-    requires { ⌜ Blank (grid .width) (parent .x) (parent .x + 64) (parent .y) (parent .y + 64) (now picture) ⌝ }
+    requires { ⌜ ForEights 64 (now whole) (now code) grid parent
+        (now picture) (now work) (now second) (now slots) ⌝ }
     ensures { λ r. ⌜ Folds false (64 * 65) (now (code .entry)) grid below8 (childrenIn parent 8)
         (now (picture .entry)) (now (picture .exit)) r ⌝ }
     ensures { λ _. ⌜ length (now (slots .exit)) ≡ slotLimit ⌝ }

@@ -1,28 +1,22 @@
-// What the sides 64 and 8 share: a region's range and its filling.
-use code::run::run_ranges;
+// What the sides 64 and 8 share: a region is judged, and filled where it is full.
 use picture::bits::fill_rect;
 use picture::grid::Grid;
-use shortening::cut::cut;
 use walk::cell::Cell;
 use walk::cell::flat_bounds;
+use walk::judge::Outcome;
+use walk::judge::judge;
 use walk::look::Seen;
-use walk::verdict::Verdict;
-use walk::verdict::verdict_on;
-ghost use mathlib.Core.Path.{_≡_};
 ghost use mathlib.Core.Bool.{false};
-ghost use Prim.Native.Nat.{_+_, _%_, _≤_};
-ghost use lib.ListN.{length};
-ghost use Rattle.shortening.specs.Kept.{markRoom};
+ghost use Prim.Native.Nat.{_+_};
 ghost use Rattle.picture.specs.Parts.{Apart};
 ghost use Rattle.picture.specs.Shapes.{gridIn};
-ghost use Rattle.walk.specs.Cells.{Ready, CellOk, regionIn};
+ghost use Rattle.walk.specs.Cells.{regionIn};
 ghost use Rattle.walk.specs.Draws.{Fills};
-ghost use Rattle.walk.specs.Walks.{Level, Shown, Looked};
+ghost use Rattle.walk.specs.Walks.{Shown, Looked};
+ghost use Rattle.flat_eights.specs.Eights.{ForFill, ForFlatLook};
 
 fn fill(grid: Grid, c: Cell, picture: &mut [u8])
-    requires { ⌜ Ready false grid (now picture) ⌝ }
-    requires { ⌜ CellOk 1 grid c ⌝ }
-    requires { ⌜ c .x % 8 ≡ 0 ⌝ }
+    requires { ⌜ ForFill grid c (now picture) ⌝ }
     ensures { λ _. ⌜ Fills (Shown false grid) (gridIn grid false) (regionIn c)
         (now (picture .entry)) (now (picture .exit)) ⌝ }
     ensures { λ _. ⌜ Apart (grid .width) (c .x) (c .xend) (c .y) (c .yend) (now (picture .entry))
@@ -50,27 +44,20 @@ pub fn look(
     base: usize,
     next: &mut [u64],
 ) -> Seen
-    requires { ⌜ Level (now whole) (now code) ⌝ }
-    requires { ⌜ Ready false grid (now picture) ⌝ }
-    requires { ⌜ CellOk 1 grid c ⌝ }
-    requires { ⌜ c .x % 8 ≡ 0 ⌝ }
-    requires { ⌜ (length (now whole) ≤ base) × (base + markRoom (length (now whole)) ≤ length (now work)) ⌝ }
-    requires { ⌜ length (now whole) ≤ length (now next) ⌝ }
+    requires { ⌜ ForFlatLook (now whole) (now code) grid c (now picture) (now work) base (now next) ⌝ }
     ensures { λ r. ⌜ Looked false (now (whole .entry)) (now (code .entry)) grid (regionIn c)
         (now (picture .entry)) (now (picture .exit)) base (now (work .exit)) (now (next .exit)) r ⌝ }
     ensures { λ _. ⌜ Apart (grid .width) (c .x) (c .x + c .side) (c .y) (c .y + c .side) (now (picture .entry))
         (now (picture .exit)) ⌝ }
 {
-    let range = run_ranges(code, flat_bounds(grid, c), work);
-    match verdict_on(range) {
-        Verdict::Full => {
+    let judged = judge(whole, code, flat_bounds(grid, c), work, base, next);
+    let outcome = judged.outcome;
+    match outcome {
+        Outcome::Full => {
             fill(grid, c, picture);
             Seen::Done(code.len() as u64)
         }
-        Verdict::Empty => Seen::Done(code.len() as u64),
-        Verdict::Mixed => {
-            let start = cut(whole, code, work, base, next);
-            Seen::Open(start)
-        }
+        Outcome::Empty => Seen::Done(code.len() as u64),
+        Outcome::Cut(start) => Seen::Open(start),
     }
 }

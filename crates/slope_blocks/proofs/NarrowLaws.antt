@@ -16,17 +16,15 @@ use Rattle.rules.proofs.Runs.{good-accepted}
 use Rattle.rules.proofs.Grids.{Axis, axis-value, accepted-sound}
 use Rattle.rules.proofs.Slopes.{short-slopes}
 use Rattle.code.specs.Words.{tapeIn}
-use Rattle.code.specs.Runs.{EndsOk, Bounded}
-use Rattle.shortening.specs.Kept.{Cut}
-use Rattle.shortening.proofs.KeptLaws.{cut-kept}
-use Rattle.shortening.proofs.CutLaws.{short-tape, short-words-accepted}
+use Rattle.code.specs.Runs.{EndsOk}
 use Rattle.picture.specs.Shapes.{gridIn}
 use Rattle.picture.specs.declared.grid.Grid.{Grid}
 use Rattle.picture.proofs.Grids.{accepted}
 use Rattle.walk.specs.Cells.{SpanIn, spanOf}
+use Rattle.walk.specs.Verdicts.{CutOver}
 use Rattle.walk.specs.Walks.{Level}
 use Rattle.walk.proofs.CellLaws.{kind}
-use Rattle.walk.proofs.LookLaws.{fit-of, lent-words}
+use Rattle.walk.proofs.LookLaws.{fit-of, short-again, short-kept, lent-words}
 use Rattle.slope_pixels.specs.declared.block.Block.{Block}
 use Rattle.slope_pixels.specs.declared.block.Layers.{Layers}
 use Rattle.slope_pixels.specs.Shades.{BlockIn, Within, Shading}
@@ -85,22 +83,21 @@ module _ (grid : Grid) (c : Block) (l : Layers) (e : gridFault true (gridIn grid
         zs = span-holds (s .zs (kind true grid e)) (l .from) (l .end) z p q (m .in-grid);
       })
 
-  module _ {whole ws hs hs′ hs″ next : List ℕ} {base start : ℕ} {box : Box} {r : Range}
-      (b : BlockBox grid c l box) (v : Bounded ws box hs hs′ r) (s : Cut whole ws hs′ base hs″ next start) where
+  module _ {whole ws work next : List ℕ} {base start : ℕ} {box : Box} (v : Level whole ws)
+      (b : BlockBox grid c l box) (s : CutOver whole ws box base work next start) where
     short : (n : ℕ) → Accepted (tapeIn n ws) → tapeIn n (drop start next) ≡ shortened (tapeIn n ws) (boxAt grid c l)
-    short n a = short-tape n _ (v .choices n (fit-of a)) s
-        ∙ ap (λ (q : Box). shortened (tapeIn n ws) q) (b .same)
+    short n a = s .short n (fit-of a) ∙ ap (λ (q : Box). shortened (tapeIn n ws) q) (b .same)
 
     pub narrowed : Narrowed whole ws grid c l next start
     narrowed =
         record {
-          within = s .within;
-          accepted = λ n a. short-words-accepted n _ (v .choices n (fit-of a)) s a;
+          within = s .start;
+          accepted = short-again s;
           same = λ n a i j z w p q.
               ap (λ (t : Tape). slopesAt t (sampleAt (gridIn grid true) i j z)) (short n a)
               ∙ short-slopes (tapeIn n ws) (good-accepted (tapeIn n ws) a) (boxAt grid c l)
               (sampleAt (gridIn grid true) i j z) (block-holds i j z w p q);
-          kept = cut-kept s;
+          kept = short-kept s v;
         }
 
 -- The words of a block, as the code lends them: of its level, and shading with them is shading with the words before.

@@ -1,11 +1,10 @@
 // The short tape of a block: of the box that its visible samples lie in.
-use code::run::run_ranges;
 use fixed::clause::Bounds;
 use picture::grid::Grid;
-use shortening::cut::cut;
 use slope_pixels::block::Block;
 use slope_pixels::block::Layers;
 use walk::cell::span;
+use walk::judge::cut_over;
 ghost use mathlib.Core.Path.{_≡_};
 ghost use mathlib.Core.Bool.{true};
 ghost use Prim.Native.Nat.{_+_, _≤_};
@@ -51,6 +50,5 @@ pub fn narrow(
     ensures { λ r. ⌜ Narrowed (now (whole .entry)) (now (code .entry)) grid block layers
         (now (next .exit)) r ⌝ }
 {
-    run_ranges(code, bounds(grid, block, layers), work);
-    cut(whole, code, work, base, next)
+    cut_over(whole, code, bounds(grid, block, layers), work, base, next)
 }

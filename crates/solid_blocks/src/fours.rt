@@ -7,13 +7,12 @@ use walk::cell::Cell;
 use walk::children::child;
 use walk::children::child_count;
 use walk::look::Seen;
-ghost use mathlib.Core.Path.{_≡_};
 ghost use mathlib.Core.Bool.{true};
-ghost use Prim.Native.Nat.{_*_, _≤_};
-ghost use lib.ListN.{length};
+ghost use Prim.Native.Nat.{_*_};
 ghost use Rattle.walk.specs.Children.{childrenIn};
-ghost use Rattle.walk.specs.Cells.{Ready, CellOk, regionIn};
-ghost use Rattle.walk.specs.Walks.{Level, MarksFit, Visits, Folds};
+ghost use Rattle.walk.specs.Cells.{regionIn};
+ghost use Rattle.walk.specs.Walks.{Visits, Folds};
+ghost use Rattle.solid_blocks.specs.Blocks.{ForFours};
 ghost use Rattle.solid_blocks.specs.Sides.{below4};
 
 // At most 65 runs: the region and 64 samples.
@@ -26,12 +25,7 @@ fn visit_four(
     work: &mut [u8],
     third: &mut [u64],
 ) -> u64
-    requires { ⌜ Level (now whole) (now code) ⌝ }
-    requires { ⌜ Ready true grid (now picture) ⌝ }
-    requires { ⌜ CellOk (grid .depth) grid cell ⌝ }
-    requires { ⌜ cell .side ≡ 4 ⌝ }
-    requires { ⌜ MarksFit 3 (now whole) (now work)
-        × (length (now whole) ≤ length (now third)) ⌝ }
+    requires { ⌜ ForFours 4 (now whole) (now code) grid cell (now picture) (now work) (now third) ⌝ }
     ensures { λ r. ⌜ Visits true 65 (now (code .entry)) grid below4 (regionIn cell)
         (now (picture .entry)) (now (picture .exit)) r ⌝ }
 {
@@ -57,12 +51,7 @@ pub fn fours(
     work: &mut [u8],
     third: &mut [u64],
 ) -> u64
-    requires { ⌜ Level (now whole) (now code) ⌝ }
-    requires { ⌜ Ready true grid (now picture) ⌝ }
-    requires { ⌜ CellOk (grid .depth) grid parent ⌝ }
-    requires { ⌜ parent .side ≡ 16 ⌝ }
-    requires { ⌜ MarksFit 3 (now whole) (now work)
-        × (length (now whole) ≤ length (now third)) ⌝ }
+    requires { ⌜ ForFours 16 (now whole) (now code) grid parent (now picture) (now work) (now third) ⌝ }
     ensures { λ r. ⌜ Folds true (64 * 65) (now (code .entry)) grid below4 (childrenIn parent 4)
         (now (picture .entry)) (now (picture .exit)) r ⌝ }
 {

@@ -7,13 +7,12 @@ use walk::cell::Cell;
 use walk::children::child;
 use walk::children::child_count;
 use walk::look::Seen;
-ghost use mathlib.Core.Path.{_≡_};
 ghost use mathlib.Core.Bool.{true};
-ghost use Prim.Native.Nat.{_*_, _≤_};
-ghost use lib.ListN.{length};
+ghost use Prim.Native.Nat.{_*_};
 ghost use Rattle.walk.specs.Children.{childrenIn};
-ghost use Rattle.walk.specs.Cells.{Ready, CellOk, regionIn};
-ghost use Rattle.walk.specs.Walks.{Level, MarksFit, Visits, Folds};
+ghost use Rattle.walk.specs.Cells.{regionIn};
+ghost use Rattle.walk.specs.Walks.{Visits, Folds};
+ghost use Rattle.solid_blocks.specs.Blocks.{ForSixteens};
 ghost use Rattle.solid_blocks.specs.Sides.{below16};
 
 // At most 4,161 runs: the region, 64 of side 4 and 4,096 samples.
@@ -27,13 +26,8 @@ fn visit_sixteen(
     second: &mut [u64],
     third: &mut [u64],
 ) -> u64
-    requires { ⌜ Level (now whole) (now code) ⌝ }
-    requires { ⌜ Ready true grid (now picture) ⌝ }
-    requires { ⌜ CellOk (grid .depth) grid cell ⌝ }
-    requires { ⌜ cell .side ≡ 16 ⌝ }
-    requires { ⌜ MarksFit 3 (now whole) (now work)
-        × (length (now whole) ≤ length (now second))
-        × (length (now whole) ≤ length (now third)) ⌝ }
+    requires { ⌜ ForSixteens 16 (now whole) (now code) grid cell
+        (now picture) (now work) (now second) (now third) ⌝ }
     ensures { λ r. ⌜ Visits true 4161 (now (code .entry)) grid below16 (regionIn cell)
         (now (picture .entry)) (now (picture .exit)) r ⌝ }
 {
@@ -59,13 +53,8 @@ pub fn sixteens(
     second: &mut [u64],
     third: &mut [u64],
 ) -> u64
-    requires { ⌜ Level (now whole) (now code) ⌝ }
-    requires { ⌜ Ready true grid (now picture) ⌝ }
-    requires { ⌜ CellOk (grid .depth) grid parent ⌝ }
-    requires { ⌜ parent .side ≡ 64 ⌝ }
-    requires { ⌜ MarksFit 3 (now whole) (now work)
-        × (length (now whole) ≤ length (now second))
-        × (length (now whole) ≤ length (now third)) ⌝ }
+    requires { ⌜ ForSixteens 64 (now whole) (now code) grid parent
+        (now picture) (now work) (now second) (now third) ⌝ }
     ensures { λ r. ⌜ Folds true (64 * 4161) (now (code .entry)) grid below16 (childrenIn parent 16)
         (now (picture .entry)) (now (picture .exit)) r ⌝ }
 {

@@ -8,18 +8,17 @@ use walk::cell::cell_at;
 use walk::children::child;
 use walk::children::child_count;
 use walk::look::Seen;
-ghost use mathlib.Core.Path.{_≡_};
 ghost use mathlib.Core.Bool.{true};
-ghost use Prim.Native.Nat.{_*_, _≤_};
-ghost use lib.ListN.{length};
+ghost use Prim.Native.Nat.{_*_};
 ghost use Rattle.rules.specs.Drawings.{sizeLimit, solidBound};
 ghost use Rattle.walk.specs.Children.{childrenIn};
-ghost use Rattle.walk.specs.Cells.{Ready, CellOk, regionIn};
-ghost use Rattle.walk.specs.Walks.{Level, MarksFit, Visits, Folds, Walked};
+ghost use Rattle.walk.specs.Cells.{regionIn};
+ghost use Rattle.walk.specs.Walks.{Visits, Folds, Walked};
 ghost use Rattle.solid_blocks.specs.Sides.{below64};
+ghost use Rattle.solid_tiles.specs.Tiles.{ForSolid, ForTiles};
 
 // At most 266,305 runs: the tile, 64 of side 16, 4,096 of side 4 and 262,144 samples.
-fn visit_tile(
+pub fn visit_tile(
     whole: &[u64],
     grid: Grid,
     cell: Cell,
@@ -29,14 +28,8 @@ fn visit_tile(
     second: &mut [u64],
     third: &mut [u64],
 ) -> u64
-    requires { ⌜ Level (now whole) (now whole) ⌝ }
-    requires { ⌜ Ready true grid (now picture) ⌝ }
-    requires { ⌜ CellOk (grid .depth) grid cell ⌝ }
-    requires { ⌜ cell .side ≡ 64 ⌝ }
-    requires { ⌜ MarksFit 3 (now whole) (now work)
-        × (length (now whole) ≤ length (now first))
-        × (length (now whole) ≤ length (now second))
-        × (length (now whole) ≤ length (now third)) ⌝ }
+    requires { ⌜ ForTiles 64 (now whole) grid cell
+        (now picture) (now work) (now first) (now second) (now third) ⌝ }
     ensures { λ r. ⌜ Visits true solidBound (now (whole .entry)) grid below64 (regionIn cell)
         (now (picture .entry)) (now (picture .exit)) r ⌝ }
 {
@@ -61,14 +54,8 @@ fn tiles(
     second: &mut [u64],
     third: &mut [u64],
 ) -> u64
-    requires { ⌜ Level (now whole) (now whole) ⌝ }
-    requires { ⌜ Ready true grid (now picture) ⌝ }
-    requires { ⌜ CellOk (grid .depth) grid parent ⌝ }
-    requires { ⌜ parent .side ≡ sizeLimit ⌝ }
-    requires { ⌜ MarksFit 3 (now whole) (now work)
-        × (length (now whole) ≤ length (now first))
-        × (length (now whole) ≤ length (now second))
-        × (length (now whole) ≤ length (now third)) ⌝ }
+    requires { ⌜ ForTiles sizeLimit (now whole) grid parent
+        (now picture) (now work) (now first) (now second) (now third) ⌝ }
     ensures { λ r. ⌜ Folds true (512 * solidBound) (now (whole .entry)) grid below64 (childrenIn parent 64)
         (now (picture .entry)) (now (picture .exit)) r ⌝ }
 {
@@ -94,12 +81,7 @@ pub fn tile_solid(
     second: &mut [u64],
     third: &mut [u64],
 ) -> u64
-    requires { ⌜ Level (now whole) (now whole) ⌝ }
-    requires { ⌜ Ready true grid (now picture) ⌝ }
-    requires { ⌜ MarksFit 3 (now whole) (now work)
-        × (length (now whole) ≤ length (now first))
-        × (length (now whole) ≤ length (now second))
-        × (length (now whole) ≤ length (now third)) ⌝ }
+    requires { ⌜ ForSolid (now whole) grid (now picture) (now work) (now first) (now second) (now third) ⌝ }
     ensures { λ r. ⌜ Walked true (now (whole .entry)) grid (now (picture .exit)) r ⌝ }
 {
     clear(picture);

@@ -9,9 +9,9 @@ use lib.Dec.{ltb}
 use borrow.Author.Tests.{lt-ltb, le-ltb, le-leb, lt-leb}
 use Rattle.rules.specs.Values.{pick}
 use Rattle.rules.specs.Drawings.{Grid, solid, Region, region, lesser, pastX}
-use Rattle.rules.specs.Drawings.{pastY, alongX, alongY, alongZ, children, whole}
+use Rattle.rules.specs.Drawings.{pastY, alongX, alongY, alongZ, children}
 use Rattle.rules.proofs.Regions.{along, along-x, along-y, along-z, over-parts}
-use Rattle.rules.proofs.Regions.{Divides, lesser-most, lesser-both, Fits, steps-whole}
+use Rattle.rules.proofs.Regions.{Divides, lesser-most, lesser-both}
 
 -- Upward along one axis: the lists f a for a ≡ x, x + n, .. below past. The counter past − x is never too small, so
 -- that a loop has only its x to carry.
@@ -195,10 +195,3 @@ part w i n h k =
 -- A region of side 1 has one sample.
 pub part-one : (w i : ℕ) → i < w → lesser w (i + 1) ≡ i + 1
 part-one w i h = let p = part w i 1 h (omega arith) in omega arith
-
--- The 64-tiles of a grid.
-pub tiles-flat : (g : Grid) → solid g ≡ false → Fits g → children g whole 64 ≡ alongY 8 8 0 0 0 64 (g .width)
-    (g .height)
-tiles-flat g e f =
-    children-rows g whole 64 8 e steps-whole refl
-    ∙ rw (lesser-first (g .width) 512 (f .width), lesser-first (g .height) 512 (f .height))

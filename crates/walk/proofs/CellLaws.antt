@@ -8,10 +8,10 @@ use lib.IntN.{ℤ}
 use mir.Syntax.{w32}
 use mir.Val.{SFits}
 use mir.Facts.{toZ-ofZ}
-use Rattle.rules.specs.Values.{pick, Range, range, Box}
+use Rattle.rules.specs.Values.{Range, range, Box}
 use Rattle.rules.specs.Drawings.{lesser, solid, at, pastZ, boxOf, gridFault, children, alongY, alongZ}
 use Rattle.rules.proofs.Words.{read}
-use Rattle.code.specs.Runs.{EndsOk, BoxOk}
+use Rattle.code.specs.Runs.{EndsOk}
 use Rattle.picture.specs.Shapes.{gridIn}
 use Rattle.picture.specs.declared.grid.Grid.{Grid}
 use Rattle.picture.proofs.Grids.{accepted}

@@ -1,11 +1,11 @@
 -- Flat children that are left: their bytes are 0, and they lie apart, so that drawing one leaves the others so.
-use mathlib.Core.Path.{_≡_, refl, sym, subst, _∙_}
+use mathlib.Core.Path.{_≡_, _∙_}
 use mathlib.Core.Bool.{false}
 use mathlib.Core.List.{List, [], _∷_}
 use Prim.Native.Nat.{ℕ, suc, _+_, _*_, _≤_, _<_}
 use native.Mathlib.Numerals.{add-one}
 use native.Mathlib.Omega.{arith}
-use lib.ListN.{drop}
+use lib.ListN.{length, getD, drop}
 use Rattle.rules.specs.Drawings.{Region, children, gridFault}
 use Rattle.rules.proofs.Regions.{Divides, Each, each-map, Disjoint, Placed, Apart as Separate, children-placed, children-apart}
 use Rattle.picture.specs.Parts.{Blank, Apart}
@@ -14,8 +14,9 @@ use Rattle.picture.specs.declared.grid.Grid.{Grid}
 use Rattle.picture.proofs.PartLaws.{blank-part, apart-part, apart-then}
 use Rattle.walk.specs.Cells.{CellOk, regionIn}
 use Rattle.walk.specs.declared.cell.Cell.{Cell}
-use Rattle.walk.specs.Children.{childrenIn, ChildOf}
-use Rattle.walk.proofs.ChildLaws.{children-in}
+use Rattle.walk.specs.Children.{lastEnd, Parent, childrenIn, ChildOf}
+use Rattle.walk.proofs.ChildLaws.{children-in, child-at, child-spot, endsGrid, children-of, parent-some}
+use Rattle.walk.proofs.Numbered.{nowhere}
 
 -- One region of the layer 0, whose bytes are 0.
 pub record Unmarked (w : ℕ) (b : List ℕ) (q : Region) : Type 0 where
@@ -78,6 +79,33 @@ clear-begins grid c n l o s e f k v =
       apart = children-apart g (regionIn c) n l d;
     })
 
+-- All children of a parent of one layer, up to where the last of them end.
+each-by : (P : Region → Type 0) (d : Region) (qs : List Region) → ((m : ℕ) → m < length qs → P (getD qs m d)) → Each P qs
+unfolding Each
+each-by P d [] h = tt
+each-by P d (q ∷ qs) h = (h 0 (omega arith), each-by P d qs (λ m l. h (suc m) (omega arith)))
+
+module _ {p : Cell} {n : ℕ} (k : Parent p n) {w : ℕ} {b : List ℕ} (one : p .zend ≤ 1)
+    (v : Blank w (p .x) (lastEnd (p .x) (p .xend) n) (p .y) (lastEnd (p .y) (p .yend) n) b) where
+  unmarked : (m : ℕ) → m < length (childrenIn p n) → Unmarked w b (getD (childrenIn p n) m nowhere)
+  unmarked m h =
+      let s = child-spot k m h in
+      rw (child-at k m h)
+      (record {
+        blank = blank-part (record { left = omega arith; right = s .x-last; top = omega arith; bottom = s .y-last }) v;
+        layer = omega (arith, s .z-in);
+        some = k .some;
+      })
+
+  pub parts-clear : Clear w (childrenIn p n) b
+  parts-clear =
+      record {
+        each = each-by (Unmarked w b) nowhere (childrenIn p n) unmarked;
+        apart = rw (children-of k)
+            (children-apart (endsGrid p) (regionIn p) n (k .count)
+            (record { positive = k .some; parts = k .parts; some-part = parent-some k }));
+      }
+
 -- A turn of the loop over the children.
 module _ {p c : Cell} {n m w : ℕ} {b : List ℕ} (k : ChildOf p n m c) where
   pub child-blank : Clear w (drop m (childrenIn p n)) b → Blank w (c .x) (c .x + n) (c .y) (c .y + n) b
@@ -98,3 +126,11 @@ module _ {p c : Cell} {n m w : ℕ} {b : List ℕ} (k : ChildOf p n m c) where
         top = k .y-from;
         bottom = omega (arith, k .y-to);
       }) a)
+
+  pub part-apart : {b₀ b′ : List ℕ}
+      → Apart w (p .x) (lastEnd (p .x) (p .xend) n) (p .y) (lastEnd (p .y) (p .yend) n) b₀ b
+      → Apart w (c .x) (c .x + n) (c .y) (c .y + n) b b′
+      → Apart w (p .x) (lastEnd (p .x) (p .xend) n) (p .y) (lastEnd (p .y) (p .yend) n) b₀ b′
+  part-apart d a =
+      apart-then d
+      (apart-part (record { left = omega (arith, k .at-x); right = k .x-last; top = k .y-from; bottom = k .y-last }) a)

@@ -8,6 +8,7 @@ pub mod Filling
 pub mod Signs
 pub mod CellLaws
 pub mod LookLaws
+pub mod JudgeLaws
 pub mod Places
 pub mod Loops
 pub mod WalkLaws

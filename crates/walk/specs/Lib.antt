@@ -2,5 +2,6 @@
 pub mod Cells
 pub mod Children
 pub mod Draws
+pub mod Judges
 pub mod Verdicts
 pub mod Walks

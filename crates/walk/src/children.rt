@@ -2,13 +2,12 @@
 use crate::cell::Cell;
 use crate::cell::lesser;
 ghost use mathlib.Core.Path.{_≡_};
-ghost use Prim.Native.Nat.{_≤_, _<_};
 ghost use lib.ListN.{length};
-ghost use Rattle.walk.specs.Children.{Axis, partsIn, Parent, childrenIn, ChildOf};
+ghost use Rattle.walk.specs.Children.{ForParts, partsIn, Parent, childrenIn, ForChild, ChildOf};
 
 // How many parts of a side begin before the end of an axis.
 fn parts(from: u32, end: u32, side: u32) -> u32
-    requires { ⌜ (from < end) × (end ≤ 512) × (1 ≤ side) × (side ≤ 512) ⌝ }
+    requires { ⌜ ForParts from end side ⌝ }
     ensures { λ r. ⌜ r ≡ partsIn from end side ⌝ }
 {
     (end - from + side - 1) / side
@@ -25,8 +24,7 @@ pub fn child_count(parent: Cell, side: u32) -> u32
 }
 
 pub fn child(parent: Cell, side: u32, m: u32) -> Cell
-    requires { ⌜ Parent parent side ⌝ }
-    requires { ⌜ m < length (childrenIn parent side) ⌝ }
+    requires { ⌜ ForChild parent side m ⌝ }
     ensures { λ r. ⌜ ChildOf parent side m r ⌝ }
 {
     let across = parts(parent.x, parent.xend, side);

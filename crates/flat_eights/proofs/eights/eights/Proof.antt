@@ -1,7 +1,7 @@
 -- The regions of side 8 of a tile.
 use mathlib.Core.Path.{_≡_, refl, _∙_}
 use mathlib.Core.Bool.{false}
-use Prim.Native.Nat.{_+_, _-_, _*_, _%_, _≤_, _<_}
+use Prim.Native.Nat.{_+_, _-_, _*_, _≤_, _<_}
 use native.Mathlib.Omega.{arith}
 use lib.ListN.{length, drop}
 use Rattle.rules.specs.Tapes.{slotLimit}
@@ -10,7 +10,7 @@ use Rattle.picture.proofs.PartLaws.{apart-none}
 use Rattle.walk.proofs.CellLaws.{ready-small}
 use Rattle.walk.proofs.LookLaws.{sound-length}
 use Rattle.walk.proofs.Places.{ready-again}
-use Rattle.walk.specs.Children.{Parent, childrenIn, ChildOf}
+use Rattle.walk.specs.Children.{Parent, childrenIn}
 use Rattle.walk.proofs.ChildLaws.{parent-of, children-few}
 use Rattle.walk.proofs.ChildLoop.{AtChild, child-begins, child-sum, child-again, child-done}
 use Rattle.walk.proofs.Clear.{Clear, clear-begins, child-blank, child-clear, child-apart}
@@ -47,13 +47,13 @@ called c = c .before .before .before .before .before .before
 -- What is known at them.
 parent : (c : tie.Start Inv-loop μ-loop) → Parent (c .args .parent) 8
 parent c =
-    let p = c .pre .1 in
-    parent-of 8 8 (ready-small (p .0)) (p .1 .0) (omega arith) (omega arith) (p .1 .1 .0 .0)
+    let p = c .pre in
+    parent-of 8 8 (ready-small (p .ready)) (p .cell) (omega arith) (omega arith) (p .side)
 
 few : (c : tie.Start Inv-loop μ-loop) → length (childrenIn (c .args .parent) 8) ≤ 64
 few c =
-    let p = c .pre .1 in
-    children-few false _ _ 8 8 (omega arith) (omega arith) (p .1 .1 .0 .0) (p .0 .fault) (p .1 .0)
+    let p = c .pre in
+    children-few false _ _ 8 8 (omega arith) (omega arith) (p .side) (p .ready .fault) (p .cell)
 
 more : (c : tie.In-loop Inv-loop μ-loop)
     → c .before .loop .m < length (childrenIn (start (c .before) .args .parent) 8)
@@ -64,17 +64,17 @@ child-count-requires c κs = parent (begun c)
 
 loop-holds : tie.Need-loop-holds Inv-loop μ-loop
 loop-holds c =
-    let p = begun (c .before) .pre .1 in (
+    let p = begun (c .before) .pre in (
       child-begins _,
       refl,
       refl,
-      p .1 .1 .1 .1 .0,
-      clear-begins _ _ 8 8 (omega arith) (omega arith) (p .1 .1 .0 .0) (p .0 .fault) (p .1 .0) (p .1 .1 .1 .1 .1),
+      p .slots,
+      clear-begins _ _ 8 8 (omega arith) (omega arith) (p .side) (p .ready .fault) (p .cell) (p .blank),
       apart-none _ _ _ _ _ _,
     )
 
 child-requires : tie.Need-child-requires Inv-loop μ-loop
-child-requires c κs = (parent (start (c .before)), more c)
+child-requires c κs = record { parent = parent (start (c .before)); more = more c }
 
 visit-eight-requires : tie.Need-visit-eight-requires Inv-loop μ-loop
 visit-eight-requires c κs =
@@ -82,17 +82,17 @@ visit-eight-requires c κs =
     let k = t .child .ensures in
     let i = t .before .before .loop .inv in
     let p = start (t .before .before) .pre in
-    let l = p .1 .1 .1 in
-    let x : t .child .result .x % 8 ≡ 0 = omega (arith, k .at-x, l .0 .1) in (
-      p .0,
-      (
-        ready-again (p .1 .0) (i .0 .size),
-        (
-          k .ok _ _ (p .1 .1 .0),
-          ((k .side, x), ((omega arith, omega arith), (i .3, child-blank k (i .4)))),
-        ),
-      ),
-    )
+    record {
+      level = p .level;
+      ready = ready-again (p .ready) (i .0 .size);
+      cell = k .ok _ _ (p .cell);
+      side = k .side;
+      even = omega (arith, k .at-x, p .even);
+      room = omega (arith, p .room, i .1);
+      second = omega (arith, p .second, i .2);
+      slots = i .3;
+      blank = child-blank k (i .4);
+    }
 
 add-count : tie.Need-add-count Inv-loop μ-loop
 add-count c =
@@ -100,7 +100,7 @@ add-count c =
     let t = in-turn (u .before) in
     let s = start (t .before .before) in
     let sum = child-sum (t .before .before .loop .inv .0) 64 (more (t .before)) (few s) (u .visit-eight .ensures .0 .bound) in
-    omega (arith, sound-length (s .pre .0 .sound), sum)
+    omega (arith, sound-length (s .pre .level .sound), sum)
 
 add-m : tie.Need-add-m Inv-loop μ-loop
 add-m c =
@@ -123,7 +123,7 @@ loop-again c =
       kept .1 .1 .0 ∙ i .2,
       v .ensures .1 .0,
       child-clear k (i .4) (v .ensures .1 .1),
-      child-apart k 64 (p .1 .1 .1 .0 .0) (i .5) (v .ensures .1 .1),
+      child-apart k 64 (p .side) (i .5) (v .ensures .1 .1),
     )
 
 same-length : tie.Need-same-length Inv-loop μ-loop

@@ -1,12 +1,11 @@
 -- Done by the look, or cut and its samples run.
-use mathlib.Core.Path.{_≡_, refl, sym}
+use mathlib.Core.Path.{refl}
 use mathlib.Core.Bool.{false}
 use mathlib.Core.List.{[]}
 use Prim.Native.Nat.{_+_}
 use native.Mathlib.Omega.{arith}
 use lib.ListN.{length}
-use Rattle.picture.proofs.PartLaws.{apart-then, apart-part}
-use Rattle.picture.specs.Parts.{Apart}
+use Rattle.picture.proofs.PartLaws.{apart-then}
 use Rattle.walk.specs.Cells.{regionIn}
 use Rattle.walk.specs.Walks.{Opened}
 use Rattle.walk.proofs.LookLaws.{sound-length, done-of, open-of, done-visits, open-sound, open-fewer, open-rows}
@@ -44,20 +43,28 @@ opened : (c : tie.After-known-told2)
 opened c = open-of false _ _ _ _ _ _ _ _ _ (looked c .look .ensures .0) (c .before .seen2 .given .1)
 
 mark-room-requires : tie.Need-mark-room-requires
-mark-room-requires c κs = begun c .pre .0 .kept .kept .within
+mark-room-requires c κs = begun c .pre .level .kept .kept .within
 
 add-base : tie.Need-add-base
 add-base c =
-    let w = begun (c .before) .pre .0 .kept .kept .within in
+    let w = begun (c .before) .pre .level .kept .kept .within in
     omega (arith, c .mark-room .ensures)
 
 look-requires : tie.Need-look-requires
 look-requires c κs =
     let k = c .before .before .before in
     let p = begun (k .before) .pre in
-    let r = p .1 .1 .1 .1 .0 in
     let m = k .mark-room .ensures in
-    (p .0, (p .1 .0, (p .1 .1 .0, (p .1 .1 .1 .0 .1, ((omega arith, omega (arith, m)), omega arith)))))
+    record {
+      look = record {
+        level = p .level;
+        ready = p .ready;
+        cell = p .cell;
+        marks = record { behind = omega arith; within = omega (arith, m, p .room) };
+        words = p .second;
+      };
+      even = p .even;
+    }
 
 enum-known-seen : tie.Need-enum-known-seen
 enum-known-seen c = search needs
@@ -87,12 +94,11 @@ sample-rows-requires c κs =
     let t = in-cut c in
     let j = looked t in
     let p = start j .pre in
-    let l = p .1 .1 .1 in
-    let short = open-sound (p .0 .sound) (opened t) in (
-      search (short, p .0 .sound),
+    let short = open-sound (p .level .sound) (opened t) in (
+      search (short, p .level .sound),
       (
-        ready-again (p .1 .0) (j .look .kept .1 .1 .1 .1 .0),
-        (p .1 .1 .0, (l .0, (l .1 .1 .0, same-blank (opened t .same) (l .1 .1 .1)))),
+        ready-again (p .ready) (j .look .kept .1 .1 .1 .1 .0),
+        (p .cell, ((p .side, p .even), (p .slots, same-blank (opened t .same) (p .blank)))),
       ),
     )
 
@@ -100,7 +106,7 @@ add-result : tie.Need-add-result
 add-result c =
     let u = visited c in
     let t = in-cut (u .before) in
-    let w = start (looked t) .pre .0 .sound in
+    let w = start (looked t) .pre .level .sound in
     omega (arith, sound-length w, open-fewer w (opened t), u .sample-rows .ensures .0 .bound)
 
 same-length : tie.Need-same-length
@@ -118,10 +124,10 @@ same-length-4 c = search needs
 returns : tie.Need-returns
 returns c =
     let j = done c in
-    let p = start j .pre .1 .1 .1 in (
+    let p = start j .pre in (
       done-visits 65 1 [] refl (omega arith)
           (done-of false _ _ _ _ _ _ _ _ _ (j .look .ensures .0) (c .before .seen .given .1)),
-      (p .1 .1 .0, looked-apart (p .0 .0) (j .look .ensures .1)),
+      (p .slots, looked-apart (p .side) (j .look .ensures .1)),
     )
 
 same-length-5 : tie.Need-same-length-5
@@ -135,13 +141,12 @@ returns-2 c =
     let u = visited c in
     let t = in-cut (u .before) in
     let j = looked t in
-    let p = start j .pre in
-    let side = p .1 .1 .1 .0 .0 in (
-      open-rows 1 8 (p .0 .sound) (omega arith) (omega arith) side (record { ok = p .1 .1 .0; same = refl }) (opened t)
-          [] 64 (u .sample-rows .ensures .0),
+    let p = start j .pre in (
+      open-rows 1 8 (p .level .sound) (omega arith) (omega arith) (p .side) (record { ok = p .cell; same = refl })
+          (opened t) [] 64 (u .sample-rows .ensures .0),
       (
         u .sample-rows .ensures .1 .0,
-        apart-then (looked-apart side (j .look .ensures .1)) (u .sample-rows .ensures .1 .1),
+        apart-then (looked-apart (p .side) (j .look .ensures .1)) (u .sample-rows .ensures .1 .1),
       ),
     )
 

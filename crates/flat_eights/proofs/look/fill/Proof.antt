@@ -1,5 +1,4 @@
 -- The rows of a cell.
-use mathlib.Core.Bool.{false}
 use native.Mathlib.Omega.{arith}
 use Rattle.flat_samples.proofs.CellRows.{pixels-in, cell-fills}
 use borrow.Author.Needs.{needs}
@@ -27,9 +26,9 @@ cast-fill-rect-3 c = search needs
 fill-rect-requires : tie.Need-fill-rect-requires
 fill-rect-requires c κs =
     let p = start c .pre in
-    let x = p .1 .0 .xs in
-    let y = p .1 .0 .ys in
-    (pixels-in _ _ _ (p .0) (p .1 .1) (x .some) (x .in-grid) (omega (arith, y)), omega (arith, y))
+    let x = p .cell .xs in
+    let y = p .cell .ys in
+    (pixels-in _ _ _ (p .ready) (p .even) (x .some) (x .in-grid) (omega (arith, y)), omega (arith, y))
 
 same-length : tie.Need-same-length
 same-length c = search needs
@@ -37,7 +36,7 @@ same-length c = search needs
 returns : tie.Need-returns
 returns c =
     let u = c .before .before in
-    (cell-fills _ _ (start (u .before) .pre .1 .0) (u .fill-rect .ensures .0), u .fill-rect .ensures .1)
+    (cell-fills _ _ (start (u .before) .pre .cell) (u .fill-rect .ensures .0), u .fill-rect .ensures .1)
 
 pub fill-spec : {M : Type 1} → statement M
 fill-spec =

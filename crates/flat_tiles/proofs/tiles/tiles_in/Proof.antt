@@ -1,4 +1,4 @@
--- The rows of tiles, with slots of their own.
+-- The tiles, with slots of their own.
 use mathlib.Core.Path.{refl}
 use borrow.Author.Needs.{needs}
 use Rattle.flat_tiles.proofs.tiles.tiles_in.Statement.{statement}
@@ -8,16 +8,14 @@ use Rattle.flat_tiles.proofs.tiles.tiles_in.Tie as tie
 abbrev start : tie.After-slots → tie.Start
 start c = c .before .before .before .before .before .before .before .before .before .before
 
-abbrev drawn : tie.After-slice-known8 → tie.After-tile-rows
+abbrev drawn : tie.After-slice-known8 → tie.After-tiles
 drawn c = c .before .before .before .before .before .before .before .before
 
-tile-rows-requires : tie.Need-tile-rows-requires
-tile-rows-requires c κs =
-    let p = start c .pre in
-    (p .0, (p .1 .0, (p .1 .1 .0, (p .1 .1 .1 .0, (refl, p .1 .1 .1 .1)))))
+tiles-requires : tie.Need-tiles-requires
+tiles-requires c κs = record { rect = start c .pre; size = refl }
 
 returns : tie.Need-returns
-returns c = let e = drawn c .tile-rows .ensures in (e .0, e .1 .1)
+returns c = let e = drawn c .tiles .ensures in (e .0, e .1 .1)
 
 same-length : tie.Need-same-length
 same-length c = search needs
@@ -33,4 +31,4 @@ same-length-4 c = search needs
 
 pub tiles-in-spec : {M : Type 1} → statement M
 tiles-in-spec =
-    tie.close (tie.spec tile-rows-requires same-length same-length-2 same-length-3 same-length-4 returns)
+    tie.close (tie.spec tiles-requires same-length same-length-2 same-length-3 same-length-4 returns)

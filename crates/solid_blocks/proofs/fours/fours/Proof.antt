@@ -39,13 +39,13 @@ called c = c .before .before .before .before .before .before
 -- What is known at them.
 parent : (c : tie.Start Inv-loop μ-loop) → Parent (c .args .parent) 4
 parent c =
-    let p = c .pre .1 in
-    parent-of 4 4 (ready-small (p .0)) (p .1 .0) (omega arith) (omega arith) (p .1 .1 .0)
+    let p = c .pre in
+    parent-of 4 4 (ready-small (p .ready)) (p .cell) (omega arith) (omega arith) (p .side)
 
 few : (c : tie.Start Inv-loop μ-loop) → length (childrenIn (c .args .parent) 4) ≤ 64
 few c =
-    let p = c .pre .1 in
-    children-few true _ _ 4 4 (omega arith) (omega arith) (p .1 .1 .0) (p .0 .fault) (p .1 .0)
+    let p = c .pre in
+    children-few true _ _ 4 4 (omega arith) (omega arith) (p .side) (p .ready .fault) (p .cell)
 
 more : (c : tie.In-loop Inv-loop μ-loop)
     → c .before .loop .m < length (childrenIn (start (c .before) .args .parent) 4)
@@ -62,7 +62,7 @@ loop-holds c = (
 )
 
 child-requires : tie.Need-child-requires Inv-loop μ-loop
-child-requires c κs = (parent (start (c .before)), more c)
+child-requires c κs = record { parent = parent (start (c .before)); more = more c }
 
 visit-four-requires : tie.Need-visit-four-requires Inv-loop μ-loop
 visit-four-requires c κs =
@@ -70,8 +70,14 @@ visit-four-requires c κs =
     let k = t .child .ensures in
     let i = t .before .before .loop .inv in
     let p = start (t .before .before) .pre in
-    let again = ready-again (p .1 .0) (i .0 .size) in
-    (p .0, (again, (k .ok _ _ (p .1 .1 .0), (k .side, (omega arith, omega arith)))))
+    record {
+      level = p .level;
+      ready = ready-again (p .ready) (i .0 .size);
+      cell = k .ok _ _ (p .cell);
+      side = k .side;
+      room = omega (arith, p .room, i .1);
+      third = omega (arith, p .third, i .2);
+    }
 
 add-count : tie.Need-add-count Inv-loop μ-loop
 add-count c =
@@ -79,7 +85,7 @@ add-count c =
     let t = in-turn (u .before) in
     let s = start (t .before .before) in
     let sum = child-sum (t .before .before .loop .inv .0) 64 (more (t .before)) (few s) (u .visit-four .ensures .bound) in
-    omega (arith, sound-length (s .pre .0 .sound), sum)
+    omega (arith, sound-length (s .pre .level .sound), sum)
 
 add-m : tie.Need-add-m Inv-loop μ-loop
 add-m c =

@@ -44,24 +44,29 @@ opened : (c : tie.After-known-told2)
 opened c = open-of true _ _ _ _ _ _ _ _ _ (looked c .look .ensures) (c .before .seen2 .given .1)
 
 mark-room-requires : tie.Need-mark-room-requires
-mark-room-requires c κs = begun c .pre .0 .kept .kept .within
+mark-room-requires c κs = begun c .pre .level .kept .kept .within
 
 mul-base : tie.Need-mul-base
 mul-base c =
-    let w = begun (c .before) .pre .0 .kept .kept .within in
+    let w = begun (c .before) .pre .level .kept .kept .within in
     omega (arith, c .mark-room .ensures)
 
 add-base : tie.Need-add-base
 add-base c =
-    let w = begun (c .before) .pre .0 .kept .kept .within in
+    let w = begun (c .before) .pre .level .kept .kept .within in
     omega (arith, c .mark-room .ensures)
 
 look-requires : tie.Need-look-requires
 look-requires c κs =
-    let s = begun (made-room c .before) in
-    let r = s .pre .1 .1 .1 .1 in
+    let p = begun (made-room c .before) .pre in
     let m = made-room c .mark-room .ensures in
-    (s .pre .0, (s .pre .1 .0, (s .pre .1 .1 .0, ((omega arith, omega arith), omega arith))))
+    record {
+      level = p .level;
+      ready = p .ready;
+      cell = p .cell;
+      marks = record { behind = omega arith; within = omega (arith, m, p .room) };
+      words = p .third;
+    }
 
 enum-known-seen : tie.Need-enum-known-seen
 enum-known-seen c = search needs
@@ -90,17 +95,21 @@ sample-layers-requires : tie.Need-sample-layers-requires
 sample-layers-requires c κs =
     let t = in-cut c in
     let j = looked t in
-    let s = start j in
-    let short = open-sound (s .pre .0 .sound) (opened t) in
-    let again = ready-again (s .pre .1 .0) (j .look .kept .1 .1 .1 .1 .0) in
-    (search (short, s .pre .0 .sound), (again, (s .pre .1 .1 .0, s .pre .1 .1 .1 .0)))
+    let p = start j .pre in
+    let short = open-sound (p .level .sound) (opened t) in
+    record {
+      sound = search (short, p .level .sound);
+      ready = ready-again (p .ready) (j .look .kept .1 .1 .1 .1 .0);
+      cell = p .cell;
+      side = p .side;
+    }
 
 add-result : tie.Need-add-result
 add-result c =
     let u = visited c in
     let t = in-cut (u .before) in
-    let s = start (looked t) in
-    omega (arith, sound-length (s .pre .0 .sound), open-fewer (s .pre .0 .sound) (opened t), u .sample-layers .ensures .bound)
+    let s = start (looked t) .pre .level .sound in
+    omega (arith, sound-length s, open-fewer s (opened t), u .sample-layers .ensures .bound)
 
 same-length : tie.Need-same-length
 same-length c = search needs
@@ -131,9 +140,9 @@ returns-2 c =
     let u = visited c in
     let t = in-cut (u .before) in
     let j = looked t in
-    let s = start j in
-    open-layers 1 4 (s .pre .0 .sound) (omega arith) (omega arith) (s .pre .1 .1 .1 .0)
-    (record { ok = s .pre .1 .1 .0; same = refl }) (s .pre .1 .0 .fault) (opened t) [] 64 (u .sample-layers .ensures)
+    let p = start j .pre in
+    open-layers 1 4 (p .level .sound) (omega arith) (omega arith) (p .side) (record { ok = p .cell; same = refl })
+    (p .ready .fault) (opened t) [] 64 (u .sample-layers .ensures)
 
 pub visit-four-spec : {M : Type 1} → statement M
 visit-four-spec =

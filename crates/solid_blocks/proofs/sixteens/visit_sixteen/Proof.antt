@@ -45,19 +45,24 @@ opened : (c : tie.After-known-told2)
 opened c = open-of true _ _ _ _ _ _ _ _ _ (looked c .look .ensures) (c .before .seen2 .given .1)
 
 mark-room-requires : tie.Need-mark-room-requires
-mark-room-requires c κs = begun c .pre .0 .kept .kept .within
+mark-room-requires c κs = begun c .pre .level .kept .kept .within
 
 add-base : tie.Need-add-base
 add-base c =
-    let w = begun (c .before) .pre .0 .kept .kept .within in
+    let w = begun (c .before) .pre .level .kept .kept .within in
     omega (arith, c .mark-room .ensures)
 
 look-requires : tie.Need-look-requires
 look-requires c κs =
-    let s = begun (made-room c .before) in
-    let r = s .pre .1 .1 .1 .1 in
+    let p = begun (made-room c .before) .pre in
     let m = made-room c .mark-room .ensures in
-    (s .pre .0, (s .pre .1 .0, (s .pre .1 .1 .0, ((omega arith, omega arith), omega arith))))
+    record {
+      level = p .level;
+      ready = p .ready;
+      cell = p .cell;
+      marks = record { behind = omega arith; within = omega (arith, m, p .room) };
+      words = p .second;
+    }
 
 enum-known-seen : tie.Need-enum-known-seen
 enum-known-seen c = search needs
@@ -86,19 +91,24 @@ fours-requires : tie.Need-fours-requires
 fours-requires c κs =
     let t = in-cut c in
     let j = looked t in
-    let s = start j in
-    let r = s .pre .1 .1 .1 .1 in
-    let w = j .look .kept .1 .1 .1 .1 .1 .0 in
-    let short = open-level (s .pre .0 .sound) (opened t) in
-    let again = ready-again (s .pre .1 .0) (j .look .kept .1 .1 .1 .1 .0) in
-    (search (short, s .pre .0), (again, (s .pre .1 .1 .0, (s .pre .1 .1 .1 .0, (omega arith, omega arith)))))
+    let p = start j .pre in
+    let kept = j .look .kept .1 .1 .1 .1 in
+    let short = open-level (p .level) (opened t) in
+    record {
+      level = search (short, p .level);
+      ready = ready-again (p .ready) (kept .0);
+      cell = p .cell;
+      side = p .side;
+      room = omega (arith, p .room, kept .1 .0);
+      third = p .third;
+    }
 
 add-result : tie.Need-add-result
 add-result c =
     let u = visited c in
     let t = in-cut (u .before) in
-    let s = start (looked t) in
-    omega (arith, sound-length (s .pre .0 .sound), open-fewer (s .pre .0 .sound) (opened t), u .fours .ensures .bound)
+    let s = start (looked t) .pre .level .sound in
+    omega (arith, sound-length s, open-fewer s (opened t), u .fours .ensures .bound)
 
 same-length : tie.Need-same-length
 same-length c = search needs
@@ -132,9 +142,8 @@ returns-2 c =
     let u = visited c in
     let t = in-cut (u .before) in
     let j = looked t in
-    let s = start j in
-    open-children 4 4 (s .pre .0 .sound) (omega arith) (omega arith) (s .pre .1 .1 .1 .0) (s .pre .1 .0 .fault)
-    (s .pre .1 .1 .0) (opened t) below4 (64 * 65) (u .fours .ensures)
+    let p = start j .pre in
+    open-children 4 4 (p .level .sound) (omega arith) (omega arith) (p .side) (p .ready .fault) (p .cell) (opened t) below4 (64 * 65) (u .fours .ensures)
 
 pub visit-sixteen-spec : {M : Type 1} → statement M
 visit-sixteen-spec =

@@ -29,20 +29,26 @@ clear-requires c κs = search needs
 
 cell-at-requires : tie.Need-cell-at-requires
 cell-at-requires c κs =
-    let e = start (c .before .before) .pre .1 .0 .fault in
-    (small true _ e, (first-in true _ e, (omega arith, omega arith)))
+    let e = start (c .before .before) .pre .ready .fault in
+    record { small = small true _ e; place = first-in true _ e; some = omega arith; few = omega arith }
 
 tiles-requires : tie.Need-tiles-requires
 tiles-requires c κs =
     let made = lent c in
     let k = made .cell-at .ensures in
-    let s = start (cleared made) in (
-      s .pre .0,
-      (
-        ready-again (s .pre .1 .0) (cleared made .clear .kept .0),
-        (k .ok, (ap (λ (q : Region). q .long) (k .same), s .pre .1 .1)),
-      ),
-    )
+    let p = start (cleared made) .pre in
+    record {
+      tile = record {
+        level = p .level;
+        ready = ready-again (p .ready) (cleared made .clear .kept .0);
+        room = p .room;
+        first = p .first;
+        second = p .second;
+        third = p .third;
+      };
+      cell = k .ok;
+      side = ap (λ (q : Region). q .long) (k .same);
+    }
 
 same-length : tie.Need-same-length
 same-length c = search needs
@@ -54,7 +60,7 @@ returns : tie.Need-returns
 returns c =
     let u = drawn c in
     let made = lent (u .before) in
-    let r = start (cleared made) .pre .1 .0 in
+    let r = start (cleared made) .pre .ready in
     folds-walked (made .cell-at .ensures) (r .fault) (u .tiles .ensures)
     (cleared made .clear .ensures ∙ ap (λ n. replicate n 0) (r .size))
 

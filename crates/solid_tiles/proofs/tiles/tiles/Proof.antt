@@ -42,13 +42,13 @@ called c = c .before .before .before .before .before .before .before .before .be
 -- What is known at them.
 parent : (c : tie.Start Inv-loop μ-loop) → Parent (c .args .parent) 64
 parent c =
-    let p = c .pre .1 in
-    parent-of 64 8 (ready-small (p .0)) (p .1 .0) (omega arith) (omega arith) (p .1 .1 .0)
+    let p = c .pre in
+    parent-of 64 8 (ready-small (p .tile .ready)) (p .cell) (omega arith) (omega arith) (p .side)
 
 few : (c : tie.Start Inv-loop μ-loop) → length (childrenIn (c .args .parent) 64) ≤ 512
 few c =
-    let p = c .pre .1 in
-    children-few true _ _ 64 8 (omega arith) (omega arith) (p .1 .1 .0) (p .0 .fault) (p .1 .0)
+    let p = c .pre in
+    children-few true _ _ 64 8 (omega arith) (omega arith) (p .side) (p .tile .ready .fault) (p .cell)
 
 more : (c : tie.In-loop Inv-loop μ-loop)
     → c .before .loop .m < length (childrenIn (start (c .before) .args .parent) 64)
@@ -67,7 +67,7 @@ loop-holds c = (
 )
 
 child-requires : tie.Need-child-requires Inv-loop μ-loop
-child-requires c κs = (parent (start (c .before)), more c)
+child-requires c κs = record { parent = parent (start (c .before)); more = more c }
 
 visit-tile-requires : tie.Need-visit-tile-requires Inv-loop μ-loop
 visit-tile-requires c κs =
@@ -75,8 +75,19 @@ visit-tile-requires c κs =
     let k = t .child .ensures in
     let i = t .before .before .loop .inv in
     let p = start (t .before .before) .pre in
-    let again = ready-again (p .1 .0) (i .0 .size) in
-    (p .0, (again, (k .ok _ _ (p .1 .1 .0), (k .side, (omega arith, omega arith, omega arith, omega arith)))))
+    let a = p .tile in
+    record {
+      tile = record {
+        level = a .level;
+        ready = ready-again (a .ready) (i .0 .size);
+        room = omega (arith, a .room, i .1);
+        first = omega (arith, a .first, i .2);
+        second = omega (arith, a .second, i .3);
+        third = omega (arith, a .third, i .4);
+      };
+      cell = k .ok _ _ (p .cell);
+      side = k .side;
+    }
 
 add-count : tie.Need-add-count Inv-loop μ-loop
 add-count c =
@@ -84,7 +95,7 @@ add-count c =
     let t = in-turn (u .before) in
     let s = start (t .before .before) in
     let sum = child-sum (t .before .before .loop .inv .0) 512 (more (t .before)) (few s) (u .visit-tile .ensures .bound) in
-    omega (arith, sound-length (s .pre .0 .sound), sum)
+    omega (arith, sound-length (s .pre .tile .level .sound), sum)
 
 add-m : tie.Need-add-m Inv-loop μ-loop
 add-m c =

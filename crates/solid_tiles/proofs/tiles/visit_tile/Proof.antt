@@ -1,7 +1,7 @@
 -- Done by the look, or cut and its children visited.
 use mathlib.Core.Path.{refl}
 use mathlib.Core.Bool.{true}
-use Prim.Native.Nat.{_*_, _≤_}
+use Prim.Native.Nat.{_*_}
 use native.Mathlib.Omega.{arith}
 use lib.ListN.{length}
 use Rattle.rules.specs.Drawings.{solidBound}
@@ -44,9 +44,15 @@ opened c = open-of true _ _ _ _ _ _ _ _ _ (looked c .look .ensures) (c .before .
 
 look-requires : tie.Need-look-requires
 look-requires c κs =
-    let s = begun (c .before .before .before) in
-    let r = s .pre .1 .1 .1 .1 in
-    (s .pre .0, (s .pre .1 .0, (s .pre .1 .1 .0, ((omega arith, omega arith), omega arith))))
+    let p = begun (c .before .before .before) .pre in
+    let t = p .tile in
+    record {
+      level = t .level;
+      ready = t .ready;
+      cell = p .cell;
+      marks = record { behind = omega arith; within = omega (arith, t .room) };
+      words = t .first;
+    }
 
 enum-known-seen : tie.Need-enum-known-seen
 enum-known-seen c = search needs
@@ -75,19 +81,26 @@ sixteens-requires : tie.Need-sixteens-requires
 sixteens-requires c κs =
     let t = in-cut c in
     let j = looked t in
-    let s = start j in
-    let r = s .pre .1 .1 .1 .1 in
-    let w = j .look .kept .1 .1 .1 .1 .1 .0 in
-    let short = open-level (s .pre .0 .sound) (opened t) in
-    let again = ready-again (s .pre .1 .0) (j .look .kept .1 .1 .1 .1 .0) in
-    (search (short, s .pre .0), (again, (s .pre .1 .1 .0, (s .pre .1 .1 .1 .0, (omega arith, omega arith, omega arith)))))
+    let p = start j .pre in
+    let whole = p .tile .level in
+    let kept = j .look .kept .1 .1 .1 .1 in
+    let short = open-level whole (opened t) in
+    record {
+      level = search (short, whole);
+      ready = ready-again (p .tile .ready) (kept .0);
+      cell = p .cell;
+      side = p .side;
+      room = omega (arith, p .tile .room, kept .1 .0);
+      second = p .tile .second;
+      third = p .tile .third;
+    }
 
 add-result : tie.Need-add-result
 add-result c =
     let u = visited c in
     let t = in-cut (u .before) in
-    let s = start (looked t) in
-    omega (arith, sound-length (s .pre .0 .sound), open-fewer (s .pre .0 .sound) (opened t), u .sixteens .ensures .bound)
+    let s = start (looked t) .pre .tile .level .sound in
+    omega (arith, sound-length s, open-fewer s (opened t), u .sixteens .ensures .bound)
 
 same-length : tie.Need-same-length
 same-length c = search needs
@@ -124,9 +137,9 @@ returns-2 c =
     let u = visited c in
     let t = in-cut (u .before) in
     let j = looked t in
-    let s = start j in
-    open-children 16 4 (s .pre .0 .sound) (omega arith) (omega arith) (s .pre .1 .1 .1 .0) (s .pre .1 .0 .fault)
-    (s .pre .1 .1 .0) (opened t) below16 (64 * 4161) (u .sixteens .ensures)
+    let p = start j .pre in
+    open-children 16 4 (p .tile .level .sound) (omega arith) (omega arith) (p .side) (p .tile .ready .fault) (p .cell)
+    (opened t) below16 (64 * 4161) (u .sixteens .ensures)
 
 pub visit-tile-spec : {M : Type 1} → statement M
 visit-tile-spec =

@@ -1,5 +1,5 @@
 -- The product of the numbers of parts on the three axes.
-use mathlib.Core.Path.{_≡_, sym, _∙_}
+use mathlib.Core.Path.{sym}
 use Prim.Native.Nat.{_≤_, _*_}
 use native.Mathlib.Omega.{arith}
 use Rattle.walk.proofs.ChildLaws.{child-length, parts-most, small-product}
