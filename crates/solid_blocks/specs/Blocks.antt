@@ -1,5 +1,5 @@
--- What the functions of the regions of side 16 and 4 ask: words of a level, a cell of side n in a picture that is ready,
--- and room for the marks of three levels and for the words of those below.
+-- What the functions of the regions of side 16 and 4 ask: words of a level, a cell of side n in a picture that is
+-- ready, and room for the marks of three levels and for the words of those below.
 use mathlib.Core.Path.{_≡_}
 use mathlib.Core.Bool.{true}
 use mathlib.Core.List.{List}

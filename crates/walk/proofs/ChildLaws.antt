@@ -28,7 +28,8 @@ use Rattle.walk.proofs.Numbered.{parts-end, part-in, parts-few, nowhere
 axis : {w i n e : ℕ} → w ≤ 512 → Ends w i n e → Axis i e n
 axis h e = record { some = e .some; in-side = e .in-side; small = omega (arith, e .in-grid) }
 
-pub parent-of : {layers : ℕ} {grid : Grid} {c : Cell} (n l : ℕ) → Small layers grid → CellOk layers grid c → 1 ≤ n → n ≤ 512
+pub parent-of : {layers : ℕ} {grid : Grid} {c : Cell} (n l : ℕ) → Small layers grid → CellOk layers grid c → 1 ≤ n
+    → n ≤ 512
     → c .side ≡ l * n → Parent c n
 parent-of n l s k o f e =
     record {
@@ -101,7 +102,8 @@ module _ {p : Cell} {n : ℕ} (k : Parent p n) where
       let d = child-digits m h in
       let e : deep - suc (m / across / rows) ≡ deep - 1 - m / across / rows = omega arith in
       ap (λ v. getD (childrenIn p n) v nowhere) (d .sum)
-      ∙ ap (λ v. getD v (m / across / rows * (rows * across) + (m / across % rows * across + m % across)) nowhere) by-ends
+      ∙ ap
+      (λ v. getD v (m / across / rows * (rows * across) + (m / across % rows * across + m % across)) nowhere) by-ends
       ∙ all-at n (k .some) (k .count) (p .x) (p .xend) (k .xs .some) (in-parts (p .x) (p .xend) (k .xs))
       (p .y) (p .yend) (k .ys .some) (in-parts (p .y) (p .yend) (k .ys))
       (p .z) (p .zend) (k .zs .some) (in-parts (p .z) (p .zend) (k .zs))
@@ -131,9 +133,11 @@ lesser-part w a b h =
       | no t ↦ ap (λ v. lesser v b) (lesser-first w a (omega arith))
     ]
 
-part-ends : {w i n e : ℕ} (x k end : ℕ) → Ends w i n e → 1 ≤ k → x < e → x + k ≤ i + n → end ≡ lesser e (x + k) → Ends w x k end
+part-ends : {w i n e : ℕ} (x k end : ℕ) → Ends w i n e → 1 ≤ k → x < e → x + k ≤ i + n → end ≡ lesser e (x + k)
+    → Ends w x k end
 part-ends {w} {i} {n} {e} x k end c o h t s =
-    ends w x k end (s ∙ ap (λ v. lesser v (x + k)) (c .least) ∙ lesser-part w (i + n) (x + k) t) (omega (arith, c .in-grid)) o
+    ends w x k end (s ∙ ap (λ v. lesser v (x + k)) (c .least) ∙ lesser-part w (i + n) (x + k) t)
+    (omega (arith, c .in-grid)) o
 
 -- The same of a parent that ends where the axis does or whole parts behind its start.
 whole-ends : {w i e n : ℕ} (a end : ℕ) → EndsWhole w i e n → 1 ≤ n → i + a * n < e → end ≡ lesser e (i + a * n + n)

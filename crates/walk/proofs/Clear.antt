@@ -7,7 +7,8 @@ use native.Mathlib.Numerals.{add-one}
 use native.Mathlib.Omega.{arith}
 use lib.ListN.{length, getD, drop}
 use Rattle.rules.specs.Drawings.{Region, children, gridFault}
-use Rattle.rules.proofs.Regions.{Divides, Each, each-map, Disjoint, Placed, Apart as Separate, children-placed, children-apart}
+use Rattle.rules.proofs.Regions.{Divides, Each, each-map, Disjoint, Placed, Apart as Separate}
+use Rattle.rules.proofs.Regions.{children-placed, children-apart}
 use Rattle.picture.specs.Parts.{Blank, Apart}
 use Rattle.picture.specs.Shapes.{gridIn}
 use Rattle.picture.specs.declared.grid.Grid.{Grid}
@@ -35,7 +36,8 @@ still u d a v =
     record {
       blank = record {
         bytes = λ j c l i.
-            a .bytes j c l (λ o. d .never (8 * c) j 0 (omega (arith, u .layer, u .some, o)) (omega (arith, v .layer, v .some, i)))
+            a .bytes j c l
+            (λ o. d .never (8 * c) j 0 (omega (arith, u .layer, u .some, o)) (omega (arith, v .layer, v .some, i)))
             ∙ v .blank .bytes j c l i;
       };
       layer = v .layer;
@@ -74,13 +76,19 @@ clear-begins grid c n l o s e f k v =
     rw (← children-in false grid c n l o s e f k)
     (record {
       each = each-map (Placed g (regionIn c) n) _
-          (λ q p. record { blank = blank-part (omega (arith, p)) v; layer = omega (arith, p .begins); some = omega (arith, p .side) })
+          (λ q p.
+          record {
+            blank = blank-part (omega (arith, p)) v;
+            layer = omega (arith, p .begins);
+            some = omega (arith, p .side);
+          })
           (children g (regionIn c) n) (children-placed g (regionIn c) n l d);
       apart = children-apart g (regionIn c) n l d;
     })
 
 -- All children of a parent of one layer, up to where the last of them end.
-each-by : (P : Region → Type 0) (d : Region) (qs : List Region) → ((m : ℕ) → m < length qs → P (getD qs m d)) → Each P qs
+each-by : (P : Region → Type 0) (d : Region) (qs : List Region) → ((m : ℕ) → m < length qs → P (getD qs m d))
+    → Each P qs
 unfolding Each
 each-by P d [] h = tt
 each-by P d (q ∷ qs) h = (h 0 (omega arith), each-by P d qs (λ m l. h (suc m) (omega arith)))
@@ -111,7 +119,8 @@ module _ {p c : Cell} {n m w : ℕ} {b : List ℕ} (k : ChildOf p n m c) where
   pub child-blank : Clear w (drop m (childrenIn p n)) b → Blank w (c .x) (c .x + n) (c .y) (c .y + n) b
   child-blank v = rw (k .side) at (clear-here (k .next) v .blank)
 
-  pub child-clear : {b′ : List ℕ} → Clear w (drop m (childrenIn p n)) b → Apart w (c .x) (c .x + n) (c .y) (c .y + n) b b′
+  pub child-clear : {b′ : List ℕ} → Clear w (drop m (childrenIn p n)) b
+      → Apart w (c .x) (c .x + n) (c .y) (c .y + n) b b′
       → Clear w (drop (m + 1) (childrenIn p n)) b′
   child-clear v a = rw add-one (clear-next (k .next) v (rw (k .side) a))
 

@@ -201,7 +201,8 @@ module _ {whole ws : List ℕ} {grid : Grid} {cell : Cell} {r : Region} {b b₁ 
     (n l : ℕ) (s : Sound ws)
     (some : 1 ≤ n) (some-part : 1 ≤ l) (parts : r .long ≡ l * n) where
   pub open-layers : CellOf (grid .depth) grid r cell → gridFault true (gridIn grid true) ≡ 0
-      → Opened true whole ws grid (regionIn cell) b b₁ base work next start → (ns : List ℕ) (k : ℕ) {c : ℕ} {b′ : List ℕ}
+      → Opened true whole ws grid (regionIn cell) b b₁ base work next start
+      → (ns : List ℕ) (k : ℕ) {c : ℕ} {b′ : List ℕ}
       → Folds true k (take (length next - start) (drop start next)) grid ns
       (alongZ l l (cell .x) (cell .y) (cell .z) n (cell .xend) (cell .yend) (cell .zend)) b₁ b′ c
       → Visits true (suc k) ws grid (n ∷ ns) r b b′ (length ws + c)

@@ -170,7 +170,8 @@ module _ (n : ℕ) (some : 1 ≤ n) (l i px : ℕ) (hx : i < px) (fx : px ≤ i 
           ap (λ v. getD v (c * w + (b * partsIn i px n + a)) nowhere) all-top
           ∙ down-at k n w l (λ c. alongY l l i j c n px py)
           (λ q. alongZ l l i j k n px py (k + q * n)) nowhere rows-length layer-below c (partsIn k pz n)
-          (b * partsIn i px n + a) (parts-few k pz n l some hz fz) u (omega (arith, mul-le-mul-right (partsIn i px n) h))
+          (b * partsIn i px n + a) (parts-few k pz n l some hz fz) u
+          (omega (arith, mul-le-mul-right (partsIn i px n) h))
           ∙ rows-at (k + (partsIn k pz n - suc c) * n) b a h t
 
 -- A number below nz · (ny · nx) by its digits.

@@ -15,9 +15,11 @@ use Rattle.walk.specs.Children.{childrenIn}
 use Rattle.walk.proofs.ChildLaws.{children-in}
 
 pub open-children : {isSolid : Bool} {whole ws : List ℕ} {grid : Grid} {cell : Cell} {b b₁ work next : List ℕ}
-    {base start : ℕ} (n l : ℕ) → Sound ws → 1 ≤ n → 1 ≤ l → cell .side ≡ l * n → gridFault isSolid (gridIn grid isSolid) ≡ 0
+    {base start : ℕ} (n l : ℕ) → Sound ws → 1 ≤ n → 1 ≤ l → cell .side ≡ l * n
+    → gridFault isSolid (gridIn grid isSolid) ≡ 0
     → CellOk (layersIn isSolid grid) grid cell
-    → Opened isSolid whole ws grid (regionIn cell) b b₁ base work next start → (ns : List ℕ) (k : ℕ) {c : ℕ} {b′ : List ℕ}
+    → Opened isSolid whole ws grid (regionIn cell) b b₁ base work next start
+    → (ns : List ℕ) (k : ℕ) {c : ℕ} {b′ : List ℕ}
     → Folds isSolid k (take (length next - start) (drop start next)) grid ns (childrenIn cell n) b₁ b′ c
     → Visits isSolid (suc k) ws grid (n ∷ ns) (regionIn cell) b b′ (length ws + c)
 open-children {isSolid} {grid = grid} {cell = cell} n l s some some-part parts e d o ns k f =

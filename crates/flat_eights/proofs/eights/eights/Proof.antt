@@ -98,8 +98,9 @@ add-count : tie.Need-add-count Inv-loop μ-loop
 add-count c =
     let u = called c in
     let t = in-turn (u .before) in
-    let s = start (t .before .before) in
-    let sum = child-sum (t .before .before .loop .inv .0) 64 (more (t .before)) (few s) (u .visit-eight .ensures .0 .bound) in
+    let l = t .before .before in
+    let s = start l in
+    let sum = child-sum (l .loop .inv .0) 64 (more (t .before)) (few s) (u .visit-eight .ensures .0 .bound) in
     omega (arith, sound-length (s .pre .level .sound), sum)
 
 add-m : tie.Need-add-m Inv-loop μ-loop

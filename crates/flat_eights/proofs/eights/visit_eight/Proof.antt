@@ -39,7 +39,8 @@ opened : (c : tie.After-known-told2)
     let a = start j .args in
     let now = j .look .last .1 .1 .1 .1 in
     Opened false (a .whole .now) (a .code .now) (a .grid) (regionIn (a .cell)) (a .picture .now)
-    (now .0) (length (a .whole .now) + j .before .before .before .before .mark-room .result) (now .1 .0) (now .1 .1 .1 .0) (c .before .seen2 .given .0 .0)
+    (now .0) (length (a .whole .now) + j .before .before .before .before .mark-room .result) (now .1 .0)
+    (now .1 .1 .1 .0) (c .before .seen2 .given .0 .0)
 opened c = open-of false _ _ _ _ _ _ _ _ _ (looked c .look .ensures .0) (c .before .seen2 .given .1)
 
 mark-room-requires : tie.Need-mark-room-requires

@@ -41,7 +41,8 @@ opened : (c : tie.After-known-told2)
     let a = start j .args in
     let now = j .look .last .1 .1 .1 .1 in
     Opened true (a .whole .now) (a .code .now) (a .grid) (regionIn (a .cell)) (a .picture .now)
-    (now .0) (length (a .whole .now) + made-room (j .before) .mark-room .result) (now .1 .0) (now .1 .1 .1 .0) (c .before .seen2 .given .0 .0)
+    (now .0) (length (a .whole .now) + made-room (j .before) .mark-room .result) (now .1 .0)
+    (now .1 .1 .1 .0) (c .before .seen2 .given .0 .0)
 opened c = open-of true _ _ _ _ _ _ _ _ _ (looked c .look .ensures) (c .before .seen2 .given .1)
 
 mark-room-requires : tie.Need-mark-room-requires
@@ -143,7 +144,8 @@ returns-2 c =
     let t = in-cut (u .before) in
     let j = looked t in
     let p = start j .pre in
-    open-children 4 4 (p .level .sound) (omega arith) (omega arith) (p .side) (p .ready .fault) (p .cell) (opened t) below4 (64 * 65) (u .fours .ensures)
+    open-children 4 4 (p .level .sound) (omega arith) (omega arith) (p .side) (p .ready .fault) (p .cell) (opened t)
+    below4 (64 * 65) (u .fours .ensures)
 
 pub visit-sixteen-spec : {M : Type 1} → statement M
 visit-sixteen-spec =

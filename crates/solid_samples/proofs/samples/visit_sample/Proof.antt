@@ -131,7 +131,8 @@ run-values-requires c κs =
 
 mul-picture : tie.Need-mul-picture
 mul-picture c =
-    let s = start (c .before .before .before) in omega (arith, pixel-most _ _ _ _ (s .pre .place) (s .pre .ready .fault))
+    let p = start (c .before .before .before) .pre in
+    omega (arith, pixel-most _ _ _ _ (p .place) (p .ready .fault))
 
 slice-write-picture : tie.Need-slice-write-picture
 slice-write-picture c =
@@ -144,9 +145,9 @@ returns-2 : tie.Need-returns-2
 returns-2 c =
     let v = c .before .run-values in
     let t = c .before .before .before in
-    let s = start t in
+    let p = start t .pre in
     let negative = sign (v .result) (v .result) _ (record { sfits = v .ok }) (c .if2 .taken) refl in (
-      sample-fills _ _ _ _ (s .pre .place) (s .pre .ready) (s .pre .sound) (low t) _ (made t) _ (v .ensures .0) negative _
+      sample-fills _ _ _ _ (p .place) (p .ready) (p .sound) (low t) _ (made t) _ (v .ensures .0) negative _
           refl,
       v .ensures .1,
     )
@@ -155,9 +156,9 @@ returns-3 : tie.Need-returns-3
 returns-3 c =
     let v = c .before .run-values in
     let t = c .before .before .before in
-    let s = start t in
+    let p = start t .pre in
     let negative = sign (v .result) (v .result) _ (record { sfits = v .ok }) (c .if2 .left) refl in (
-      sample-skips _ _ _ _ (s .pre .place) (s .pre .ready) (s .pre .sound) (low t) _ (made t) _ (v .ensures .0) negative,
+      sample-skips _ _ _ _ (p .place) (p .ready) (p .sound) (low t) _ (made t) _ (v .ensures .0) negative,
       v .ensures .1,
     )
 

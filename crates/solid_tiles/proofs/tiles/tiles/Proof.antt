@@ -24,7 +24,8 @@ Inv-loop whole grid parent picture₀ work₀ first₀ second₀ third₀ count�
     × (length third ≡ length third₀)
 
 abbrev μ-loop : tie.MeasureT-loop
-μ-loop whole grid parent picture₀ work₀ first₀ second₀ third₀ count₀ end m₀ picture work first second third count m = end - m
+μ-loop whole grid parent picture₀ work₀ first₀ second₀ third₀ count₀ end m₀ picture work first second third count m =
+    end - m
 
 -- The places: the start; in a turn before the child's call, after it, and past the loop.
 abbrev begun : tie.After-slice-known5 Inv-loop μ-loop → tie.Start Inv-loop μ-loop
@@ -93,8 +94,9 @@ add-count : tie.Need-add-count Inv-loop μ-loop
 add-count c =
     let u = called c in
     let t = in-turn (u .before) in
-    let s = start (t .before .before) in
-    let sum = child-sum (t .before .before .loop .inv .0) 512 (more (t .before)) (few s) (u .visit-tile .ensures .bound) in
+    let l = t .before .before in
+    let s = start l in
+    let sum = child-sum (l .loop .inv .0) 512 (more (t .before)) (few s) (u .visit-tile .ensures .bound) in
     omega (arith, sound-length (s .pre .tile .level .sound), sum)
 
 add-m : tie.Need-add-m Inv-loop μ-loop
@@ -136,7 +138,8 @@ same-length-5 c = c .before .loop .inv .4
 returns : tie.Need-returns Inv-loop μ-loop
 returns c =
     let e = c .before .before .child-count .ensures in
-    child-done (c .before .loop .inv .0) 512 (512 * solidBound) (omega (arith, c .loop-test .left)) (few (start (c .before)))
+    let l = c .before in
+    child-done (l .loop .inv .0) 512 (512 * solidBound) (omega (arith, c .loop-test .left)) (few (start l))
     (omega arith)
 
 pub tiles-spec : {M : Type 1} → statement M

@@ -10,8 +10,8 @@ known : (c : tie.After-parts3)
     Spot (a .parent) (a .side) (a .m) (c .before .before .parts .result) (c .before .parts2 .result) (c .parts3 .result)
 known c =
     let s = c .before .before .before in
-    spot (s .pre .parent) (s .args .m) (c .before .before .parts .ensures) (c .before .parts2 .ensures) (c .parts3 .ensures)
-    (s .pre .more)
+    spot (s .pre .parent) (s .args .m) (c .before .before .parts .ensures) (c .before .parts2 .ensures)
+    (c .parts3 .ensures) (s .pre .more)
 
 -- Whatever is added stays below 1,024.
 abbrev all-parts : tie.After-struct-known3 → tie.After-parts3
@@ -36,13 +36,19 @@ mul-x : tie.Need-mul-x
 mul-x c = let k = known c in let p = c .before .before .before .pre .parent in omega (arith, k .x-in, p .xs)
 
 add-x : tie.Need-add-x
-add-x c = let k = known (c .before) in let p = c .before .before .before .before .pre .parent in omega (arith, k .x-in, p .xs)
+add-x c =
+    let k = known (c .before) in
+    let p = c .before .before .before .before .pre .parent in
+    omega (arith, k .x-in, p .xs)
 
 rem-y : tie.Need-rem-y
 rem-y c = known (c .before) .some-y
 
 mul-y : tie.Need-mul-y
-mul-y c = let k = known (c .before) in let p = c .before .before .before .before .pre .parent in omega (arith, k .y-in, p .ys)
+mul-y c =
+    let k = known (c .before) in
+    let p = c .before .before .before .before .pre .parent in
+    omega (arith, k .y-in, p .ys)
 
 add-y : tie.Need-add-y
 add-y c =

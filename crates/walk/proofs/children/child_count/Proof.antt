@@ -21,7 +21,8 @@ flat c =
     let p = c .before .before .before .pre in
     let x = parts-most _ _ _ (p .some) (p .xs .some) (p .xs .small) in
     let y = parts-most _ _ _ (p .some) (p .ys .some) (p .ys .small) in
-    small-product _ _ 512 512 (omega (arith, y, c .before .parts2 .ensures)) (omega (arith, x, c .before .before .parts .ensures))
+    small-product _ _ 512 512 (omega (arith, y, c .before .parts2 .ensures))
+    (omega (arith, x, c .before .before .parts .ensures))
 
 mul-result : tie.Need-mul-result
 mul-result c = omega (arith, flat c)
