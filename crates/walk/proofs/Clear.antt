@@ -80,7 +80,8 @@ clear-begins grid c n l o s e f k v =
     })
 
 -- All children of a parent of one layer, up to where the last of them end.
-each-by : (P : Region → Type 0) (d : Region) (qs : List Region) → ((m : ℕ) → m < length qs → P (getD qs m d)) → Each P qs
+each-by : (P : Region → Type 0) (d : Region) (qs : List Region) → ((m : ℕ) → m < length qs → P (getD qs m d))
+    → Each P qs
 unfolding Each
 each-by P d [] h = tt
 each-by P d (q ∷ qs) h = (h 0 (omega arith), each-by P d qs (λ m l. h (suc m) (omega arith)))

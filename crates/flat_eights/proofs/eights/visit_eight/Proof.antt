@@ -88,13 +88,16 @@ sample-rows-requires c κs =
     let j = looked t in
     let p = start j .pre in
     let l = p .1 .1 .1 in
-    let short = open-sound (p .0 .sound) (opened t) in (
-      search (short, p .0 .sound),
-      (
-        ready-again (p .1 .0) (j .look .kept .1 .1 .1 .1 .0),
-        (p .1 .1 .0, (l .0, (l .1 .1 .0, same-blank (opened t .same) (l .1 .1 .1)))),
-      ),
-    )
+    let short = open-sound (p .0 .sound) (opened t) in
+    record {
+      sound = search short;
+      ready = ready-again (p .1 .0) (j .look .kept .1 .1 .1 .1 .0);
+      ok = p .1 .1 .0;
+      side = l .0 .0;
+      start = l .0 .1;
+      size = l .1 .1 .0;
+      blank = same-blank (opened t .same) (l .1 .1 .1);
+    }
 
 add-result : tie.Need-add-result
 add-result c =
