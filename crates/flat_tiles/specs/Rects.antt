@@ -14,8 +14,8 @@ use Rattle.walk.specs.Children.{lastEnd, Parent, Whole}
 use Rattle.walk.specs.Walks.{Level, MarksFit}
 use Rattle.walk.specs.declared.cell.Cell.{Cell}
 
--- Its first column begins a byte of the picture, and its tiles are cells of the grid: each of its ends is the grid's, or
--- lies whole tiles behind its start.
+-- Its first column begins a byte of the picture, and its tiles are cells of the grid: each of its ends is the grid's
+-- or lies whole tiles behind its start.
 pub record Tiled (grid : Grid) (c : Cell) : Type 0 where
   pub start : c .x % 8 ≡ 0
   pub side : c .side ≡ sizeLimit

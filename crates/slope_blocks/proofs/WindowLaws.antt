@@ -21,7 +21,22 @@ use Rattle.slope_pixels.specs.declared.block.Layers.{Layers}
 use Rattle.slope_pixels.specs.Shades.{Fits, blockAt, BlockIn, Within, Right, Seen, layersAt, allOf}
 use Rattle.slope_pixels.specs.Shades.{Shades, Alike, Shading, Tight}
 use Rattle.slope_blocks.specs.Narrow.{Shaded}
-use Rattle.slope_pixels.proofs.ShadeLaws.{shading-none}
+use Rattle.slope_blocks.specs.Blocks.{Lent}
+use Rattle.slope_pixels.proofs.ShadeLaws.{shading-none, fits-again}
+
+-- What is lent, from one call to the next.
+pub lent-again : {whole : List ℕ} {grid : Grid} {h : List ℕ} {b b′ : List ℤ}
+    {work work′ first first′ second second′ : List ℕ}
+    → Lent whole grid h b work first second → length b′ ≡ length b → length work′ ≡ length work
+    → length first′ ≡ length first → length second′ ≡ length second → Lent whole grid h b′ work′ first′ second′
+lent-again l b w f s =
+    record {
+      level = l .level;
+      fits = fits-again (l .fits) b;
+      marks = omega (arith, l .marks);
+      words-first = omega (arith, l .words-first);
+      words-second = omega (arith, l .words-second);
+    }
 
 -- The words stand for the tape in every part of a window.
 alike-less : {t : Tape} {ws : List ℕ} {grid : Grid} {h : List ℕ} {c : Block} (l m : Layers) → l .from ≤ m .from

@@ -1,21 +1,20 @@
 // Side 16: blocks of side 16 of the picture, with a short tape for each window of layers, which the blocks of side 4
 // start from; and the whole picture.
-use crate::fours::four_rows;
+use crate::fours::fours;
 use crate::narrow::narrow;
 use picture::grid::Grid;
 use slope_pixels::block::Block;
 use slope_pixels::block::Layers;
 use slope_pixels::block::seen_in;
 use slope_pixels::pixels::clear;
-use tape::SLOT_LIMIT;
-use walk::cell::lesser;
-ghost use mathlib.Core.Path.{_≡_};
+use walk::cell::Cell;
+use walk::children::child;
+use walk::children::child_count;
 ghost use Prim.Native.Nat.{_≤_, _<_};
-ghost use lib.ListN.{length};
-ghost use Rattle.slope_runs.specs.Shapes.{slotsOf, Sized};
-ghost use Rattle.walk.specs.Walks.{Level, MarksFit};
-ghost use Rattle.slope_pixels.specs.Shades.{Fits, allOf, BlockIn, Shading};
-ghost use Rattle.slope_blocks.specs.Narrow.{LayersIn, Shaded};
+ghost use Rattle.rules.specs.Drawings.{sizeLimit};
+ghost use Rattle.slope_pixels.specs.Shades.{allOf, Shading};
+ghost use Rattle.slope_blocks.specs.Narrow.{Shaded};
+ghost use Rattle.slope_blocks.specs.Blocks.{Lent, ForSixteens, ForWindow};
 
 // The pixels of a block whose heights lie in a window.
 fn shade_window(
@@ -28,26 +27,15 @@ fn shade_window(
     work: &mut [u8],
     first: &mut [u64],
     second: &mut [u64],
-    values: &mut [i32; SLOT_LIMIT],
-    xs: &mut [i32; SLOT_LIMIT],
-    ys: &mut [i32; SLOT_LIMIT],
-    zs: &mut [i32; SLOT_LIMIT],
 )
-    requires { ⌜ Level (now whole) (now whole) ⌝ }
-    requires { ⌜ Fits grid (now picture) (now slopes) ⌝ }
-    requires { ⌜ BlockIn grid block ⌝ }
-    requires { ⌜ MarksFit 2 (now whole) (now work)
-        × (length (now whole) ≤ length (now first))
-        × (length (now whole) ≤ length (now second)) ⌝ }
-    requires { ⌜ LayersIn grid window ⌝ }
-    requires { ⌜ Sized (slotsOf (now values) (now xs) (now ys) (now zs)) ⌝ }
+    requires { ⌜ ForWindow (now whole) grid block window (now picture) (now slopes)
+        (now work) (now first) (now second) ⌝ }
     ensures { λ _. ⌜ Shading (now (whole .entry)) grid (now (picture .entry)) window block block
         (now (slopes .entry)) (now (slopes .exit)) ⌝ }
-    ensures { λ _. ⌜ Sized (slotsOf (now (values .exit)) (now (xs .exit)) (now (ys .exit)) (now (zs .exit))) ⌝ }
 {
     let start = narrow(whole, whole, grid, block, window, work, whole.len(), first);
     let short = &first[start..];
-    four_rows(
+    fours(
         whole,
         short,
         grid,
@@ -57,10 +45,6 @@ fn shade_window(
         slopes,
         work,
         second,
-        values,
-        xs,
-        ys,
-        zs,
     );
 }
 
@@ -86,21 +70,11 @@ fn visit_sixteen(
     work: &mut [u8],
     first: &mut [u64],
     second: &mut [u64],
-    values: &mut [i32; SLOT_LIMIT],
-    xs: &mut [i32; SLOT_LIMIT],
-    ys: &mut [i32; SLOT_LIMIT],
-    zs: &mut [i32; SLOT_LIMIT],
 )
-    requires { ⌜ Level (now whole) (now whole) ⌝ }
-    requires { ⌜ Fits grid (now picture) (now slopes) ⌝ }
-    requires { ⌜ BlockIn grid block ⌝ }
-    requires { ⌜ MarksFit 2 (now whole) (now work)
-        × (length (now whole) ≤ length (now first))
-        × (length (now whole) ≤ length (now second)) ⌝ }
-    requires { ⌜ Sized (slotsOf (now values) (now xs) (now ys) (now zs)) ⌝ }
+    requires { ⌜ ForSixteens 16 (now whole) grid block (now picture) (now slopes)
+        (now work) (now first) (now second) ⌝ }
     ensures { λ _. ⌜ Shading (now (whole .entry)) grid (now (picture .entry)) (allOf grid) block block
         (now (slopes .entry)) (now (slopes .exit)) ⌝ }
-    ensures { λ _. ⌜ Sized (slotsOf (now (values .exit)) (now (xs .exit)) (now (ys .exit)) (now (zs .exit))) ⌝ }
 {
     let all = Layers {
         from: 0,
@@ -123,10 +97,6 @@ fn visit_sixteen(
             work,
             first,
             second,
-            values,
-            xs,
-            ys,
-            zs,
         );
         let below = Layers {
             from: left.from,
@@ -136,60 +106,7 @@ fn visit_sixteen(
     }
 }
 
-// One row of blocks, at most 16 pixels along y.
-fn sixteen_row(
-    whole: &[u64],
-    grid: Grid,
-    row: Block,
-    picture: &[u16],
-    slopes: &mut [i32],
-    work: &mut [u8],
-    first: &mut [u64],
-    second: &mut [u64],
-    values: &mut [i32; SLOT_LIMIT],
-    xs: &mut [i32; SLOT_LIMIT],
-    ys: &mut [i32; SLOT_LIMIT],
-    zs: &mut [i32; SLOT_LIMIT],
-)
-    requires { ⌜ Level (now whole) (now whole) ⌝ }
-    requires { ⌜ Fits grid (now picture) (now slopes) ⌝ }
-    requires { ⌜ BlockIn grid row ⌝ }
-    requires { ⌜ MarksFit 2 (now whole) (now work)
-        × (length (now whole) ≤ length (now first))
-        × (length (now whole) ≤ length (now second)) ⌝ }
-    requires { ⌜ Sized (slotsOf (now values) (now xs) (now ys) (now zs)) ⌝ }
-    ensures { λ _. ⌜ Shading (now (whole .entry)) grid (now (picture .entry)) (allOf grid) row row
-        (now (slopes .entry)) (now (slopes .exit)) ⌝ }
-    ensures { λ _. ⌜ Sized (slotsOf (now (values .exit)) (now (xs .exit)) (now (ys .exit)) (now (zs .exit))) ⌝ }
-{
-    let mut x = row.x;
-    while x < row.xend {
-        let xend = lesser(row.xend, x + 16);
-        let block = Block {
-            x: x,
-            xend: xend,
-            y: row.y,
-            yend: row.yend,
-        };
-        visit_sixteen(
-            whole,
-            grid,
-            block,
-            picture,
-            slopes,
-            work,
-            first,
-            second,
-            values,
-            xs,
-            ys,
-            zs,
-        );
-        x = xend;
-    }
-}
-
-fn sixteen_rows(
+fn sixteens(
     whole: &[u64],
     grid: Grid,
     block: Block,
@@ -198,46 +115,33 @@ fn sixteen_rows(
     work: &mut [u8],
     first: &mut [u64],
     second: &mut [u64],
-    values: &mut [i32; SLOT_LIMIT],
-    xs: &mut [i32; SLOT_LIMIT],
-    ys: &mut [i32; SLOT_LIMIT],
-    zs: &mut [i32; SLOT_LIMIT],
 )
-    requires { ⌜ Level (now whole) (now whole) ⌝ }
-    requires { ⌜ Fits grid (now picture) (now slopes) ⌝ }
-    requires { ⌜ BlockIn grid block ⌝ }
-    requires { ⌜ MarksFit 2 (now whole) (now work)
-        × (length (now whole) ≤ length (now first))
-        × (length (now whole) ≤ length (now second)) ⌝ }
-    requires { ⌜ Sized (slotsOf (now values) (now xs) (now ys) (now zs)) ⌝ }
+    requires { ⌜ ForSixteens sizeLimit (now whole) grid block (now picture) (now slopes)
+        (now work) (now first) (now second) ⌝ }
     ensures { λ _. ⌜ Shading (now (whole .entry)) grid (now (picture .entry)) (allOf grid) block block
         (now (slopes .entry)) (now (slopes .exit)) ⌝ }
-    ensures { λ _. ⌜ Sized (slotsOf (now (values .exit)) (now (xs .exit)) (now (ys .exit)) (now (zs .exit))) ⌝ }
 {
-    let mut y = block.y;
-    while y < block.yend {
-        let yend = lesser(block.yend, y + 16);
-        let row = Block {
-            x: block.x,
-            xend: block.xend,
-            y: y,
-            yend: yend,
+    let parent = Cell {
+        x: block.x,
+        xend: block.xend,
+        y: block.y,
+        yend: block.yend,
+        z: 0,
+        zend: 1,
+        side: 512,
+    };
+    let end = child_count(parent, 16);
+    let mut m = 0;
+    while m < end {
+        let cell = child(parent, 16, m);
+        let sixteen = Block {
+            x: cell.x,
+            xend: cell.xend,
+            y: cell.y,
+            yend: cell.yend,
         };
-        sixteen_row(
-            whole,
-            grid,
-            row,
-            picture,
-            slopes,
-            work,
-            first,
-            second,
-            values,
-            xs,
-            ys,
-            zs,
-        );
-        y = yend;
+        visit_sixteen(whole, grid, sixteen, picture, slopes, work, first, second);
+        m += 1;
     }
 }
 
@@ -251,36 +155,15 @@ pub fn shade(
     first: &mut [u64],
     second: &mut [u64],
 )
-    requires { ⌜ Level (now whole) (now whole) ⌝ }
-    requires { ⌜ Fits grid (now picture) (now slopes) ⌝ }
-    requires { ⌜ MarksFit 2 (now whole) (now work)
-        × (length (now whole) ≤ length (now first))
-        × (length (now whole) ≤ length (now second)) ⌝ }
+    requires { ⌜ Lent (now whole) grid (now picture) (now slopes) (now work) (now first) (now second) ⌝ }
     ensures { λ _. ⌜ Shaded (now (whole .entry)) grid (now (picture .entry)) (now (slopes .exit)) ⌝ }
 {
     clear(slopes);
-    let mut values = [0i32; SLOT_LIMIT];
-    let mut xs = [0i32; SLOT_LIMIT];
-    let mut ys = [0i32; SLOT_LIMIT];
-    let mut zs = [0i32; SLOT_LIMIT];
     let all = Block {
         x: 0,
         xend: grid.width,
         y: 0,
         yend: grid.height,
     };
-    sixteen_rows(
-        whole,
-        grid,
-        all,
-        picture,
-        slopes,
-        work,
-        first,
-        second,
-        &mut values,
-        &mut xs,
-        &mut ys,
-        &mut zs,
-    );
+    sixteens(whole, grid, all, picture, slopes, work, first, second);
 }

@@ -201,6 +201,13 @@ module _ {ws : List ℕ} {grid : Grid} {h : List ℕ} {win : Layers} (x y : ℕ)
   pub pixel-high : win .end < getD h (y * grid .width + x) 0 → Shading ws grid h win (pixelAt x y) (pixelAt x y) b b
   pixel-high l = outside (λ s. omega (arith, s .most, l))
 
+-- A pixel as the part of a row that it is.
+pub pixel-of-row : {ws : List ℕ} {grid : Grid} {h : List ℕ} {win : Layers} {b b′ : List ℤ} (row : Block) (x : ℕ)
+    → row .yend ≡ row .y + 1
+    → Shading ws grid h win (pixelAt x (row .y)) (pixelAt x (row .y)) b b′
+    → Shading ws grid h win (blockAt x (x + 1) (row .y) (row .yend)) (blockAt x (x + 1) (row .y) (row .yend)) b b′
+pixel-of-row row x e s = rw e s
+
 -- Along a row of parts: the columns before x are shaded, and then those to x′; the same over rows.
 pub columns-split : (a x x′ y y′ i j : ℕ) → Within (blockAt a x′ y y′) i j
     → Within (blockAt a x y y′) i j ⊎ Within (blockAt x x′ y y′) i j

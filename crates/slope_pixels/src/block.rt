@@ -1,8 +1,8 @@
 // A block of pixels, and the least window of layers that its heights lie in.
 use picture::grid::Grid;
 use walk::cell::lesser;
-ghost use Prim.Native.Nat.{_≤_, _<_};
-ghost use Rattle.slope_pixels.specs.Shades.{BlockIn, rowOf, Heights, Spans, Joined, Tight};
+ghost use Rattle.slope_pixels.specs.Shades.{rowOf, Spans, Joined, Tight};
+ghost use Rattle.slope_pixels.specs.Asked.{ForSeenRow, ForSeen};
 
 // First index and past the last one on both axes.
 pub struct Block {
@@ -42,9 +42,7 @@ fn join(known: Layers, height: u16, all: Layers) -> Layers
 }
 
 fn seen_row(picture: &[u16], grid: Grid, block: Block, y: u32, all: Layers, known: Layers) -> Layers
-    requires { ⌜ Heights grid (now picture) ⌝ }
-    requires { ⌜ BlockIn grid block ⌝ }
-    requires { ⌜ (block .y ≤ y) × (y < block .yend) ⌝ }
+    requires { ⌜ ForSeenRow grid (now picture) block y ⌝ }
     ensures { λ r. ⌜ Spans grid (now (picture .entry)) (rowOf block y) all known r ⌝ }
 {
     let mut seen = known;
@@ -60,9 +58,7 @@ fn seen_row(picture: &[u16], grid: Grid, block: Block, y: u32, all: Layers, know
 // The least window that has those of a block's heights that lie in the window `all`; without any, one that ends where
 // or before it begins.
 pub fn seen_in(picture: &[u16], grid: Grid, block: Block, all: Layers) -> Layers
-    requires { ⌜ Heights grid (now picture) ⌝ }
-    requires { ⌜ BlockIn grid block ⌝ }
-    requires { ⌜ all .from ≤ all .end ⌝ }
+    requires { ⌜ ForSeen grid (now picture) block all ⌝ }
     ensures { λ r. ⌜ Tight grid (now (picture .entry)) block all r ⌝ }
 {
     let mut seen = Layers {

@@ -90,24 +90,21 @@ shade-requires c κs =
     let picture = k .1 .0 in
     let work = k .1 .1 .0 in
     let first = k .1 .1 .1 .0 in
-    let second = k .1 .1 .1 .1 .0 in (
-      whole-level d o h,
-      (
-        record {
-          heights = record {
-            fault = d .grid;
-            size = picture ∙ d .size ∙ sym (solid-size true _ refl);
-            most = walked-heights d (tiles v);
-          };
-          slopes = p .0;
-        },
-        (
-          omega (arith, work, few, r .0),
-          omega (arith, first, within, r .1 .0),
-          omega (arith, second, within, r .1 .1),
-        ),
-      ),
-    )
+    let second = k .1 .1 .1 .1 .0 in
+    record {
+      level = whole-level d o h;
+      fits = record {
+        heights = record {
+          fault = d .grid;
+          size = picture ∙ d .size ∙ sym (solid-size true _ refl);
+          most = walked-heights d (tiles v);
+        };
+        slopes = p .0;
+      };
+      marks = omega (arith, work, few, r .0);
+      words-first = omega (arith, first, within, r .1 .0);
+      words-second = omega (arith, second, within, r .1 .1);
+    }
 
 same-length : tie.Need-same-length
 same-length c = search needs

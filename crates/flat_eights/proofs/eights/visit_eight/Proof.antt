@@ -95,13 +95,16 @@ sample-rows-requires c κs =
     let t = in-cut c in
     let j = looked t in
     let p = start j .pre in
-    let short = open-sound (p .level .sound) (opened t) in (
-      search (short, p .level .sound),
-      (
-        ready-again (p .ready) (j .look .kept .1 .1 .1 .1 .0),
-        (p .cell, ((p .side, p .even), (p .slots, same-blank (opened t .same) (p .blank)))),
-      ),
-    )
+    let short = open-sound (p .level .sound) (opened t) in
+    record {
+      sound = search (short, p .level .sound);
+      ready = ready-again (p .ready) (j .look .kept .1 .1 .1 .1 .0);
+      ok = p .cell;
+      side = p .side;
+      start = p .even;
+      size = p .slots;
+      blank = same-blank (opened t .same) (p .blank);
+    }
 
 add-result : tie.Need-add-result
 add-result c =

@@ -80,4 +80,14 @@ returns c =
     (λ j. painted c .slice-known6 .given j .fits)
 
 pub tile-flat-spec : {M : Type 1} → statement M
-tile-flat-spec = tie.close (tie.spec clear-requires cell-at-requires tiles-in-requires same-length same-length-2 same-length-3 same-length-4 returns)
+tile-flat-spec =
+    tie.close
+    (tie.spec
+    clear-requires
+    cell-at-requires
+    tiles-in-requires
+    same-length
+    same-length-2
+    same-length-3
+    same-length-4
+    returns)

@@ -29,7 +29,8 @@ Inv-loop whole grid parent picture₀ work₀ first₀ second₀ slots₀ count�
     × TilesApart grid parent picture₀ picture
 
 abbrev μ-loop : tie.MeasureT-loop
-μ-loop whole grid parent picture₀ work₀ first₀ second₀ slots₀ count₀ end m₀ picture work first second slots count m = end - m
+μ-loop whole grid parent picture₀ work₀ first₀ second₀ slots₀ count₀ end m₀ picture work first second slots count m =
+    end - m
 
 -- The places: the start; in a turn before the tile's call, after it, and past the loop.
 abbrev begun : tie.After-slice-known4 Inv-loop μ-loop → tie.Start Inv-loop μ-loop
@@ -92,7 +93,8 @@ add-count c =
     let u = called c in
     let t = in-turn (u .before) in
     let s = start (t .before .before) in
-    let sum = child-sum (t .before .before .loop .inv .0) 64 (more (t .before)) (few s) (u .visit-tile .ensures .0 .bound) in
+    let i = t .before .before .loop .inv .0 in
+    let sum = child-sum i 64 (more (t .before)) (few s) (u .visit-tile .ensures .0 .bound) in
     omega (arith, sound-length (s .pre .rect .lent .level .sound), sum)
 
 add-m : tie.Need-add-m Inv-loop μ-loop

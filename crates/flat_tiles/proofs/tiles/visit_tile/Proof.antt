@@ -17,7 +17,7 @@ use borrow.Author.Needs.{needs}
 use Rattle.flat_tiles.proofs.tiles.visit_tile.Statement.{statement}
 use Rattle.flat_tiles.proofs.tiles.visit_tile.Tie as tie
 
--- The places: the start; the look, from either arm; in the arm of a cut the call for the children, and what is after it.
+-- The places: the start; the look, from either arm; in the arm of a cut the call for the children, and after it.
 abbrev begun : tie.After-slice-known4 → tie.Start
 begun c = c .before .before .before .before .before
 

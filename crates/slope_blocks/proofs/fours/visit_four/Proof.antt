@@ -25,24 +25,23 @@ in-case c = c .before .before .before .before
 abbrev narrowed : tie.After-slice-known4 → tie.After-narrow
 narrowed c = c .before .before .before .before
 
-abbrev lent : tie.After-shade-rows-arg5 → tie.After-slice-known4
-lent c = c .before .before .before .before .before .before .before
+abbrev lent : tie.After-shade-rows-arg → tie.After-slice-known4
+lent c = c .before .before .before
 
 seen-in-requires : tie.Need-seen-in-requires
-seen-in-requires c κs = let p = begun c .pre .1 in (p .0 .heights, (p .1 .0, omega (arith, p .1 .1 .1 .0 .some)))
+seen-in-requires c κs =
+    let p = begun c .pre in
+    record { heights = p .fits .heights; block = p .block .in-grid; some = omega (arith, p .window .some) }
 
 returns : tie.Need-returns
-returns c =
-    let t = seen c in
-    let s = begun (t .before) in
-    (shading-nothing _ (t .seen-in .ensures) (c .if1 .taken), s .pre .1 .1 .1 .1 .1)
+returns c = shading-nothing _ (seen c .seen-in .ensures) (c .if1 .taken)
 
 mark-room-requires : tie.Need-mark-room-requires
-mark-room-requires c κs = start c .pre .0 .kept .kept .within
+mark-room-requires c κs = start c .pre .level .kept .kept .within
 
 add-base : tie.Need-add-base
 add-base c =
-    let w = start (c .before) .pre .0 .kept .kept .within in
+    let w = start (c .before) .pre .level .kept .kept .within in
     omega (arith, c .mark-room .ensures)
 
 narrow-requires : tie.Need-narrow-requires
@@ -50,20 +49,19 @@ narrow-requires c κs =
     let r = c .before .before in
     let e = r .before in
     let p = start e .pre in
-    let k = p .1 .1 .1 in
-    let marks = k .0 in
+    let marks = p .marks in
     let m = r .mark-room .ensures in (
-      p .0,
+      p .level,
       (
-        p .1 .0 .heights .fault,
+        p .fits .heights .fault,
         (
-          p .1 .1 .0,
+          p .block .in-grid,
           (
             record {
               some = omega (arith, e .if1 .left);
-              in-grid = omega (arith, topped e .seen-in .ensures .end, k .1 .0 .in-grid);
+              in-grid = omega (arith, topped e .seen-in .ensures .end, p .window .in-grid);
             },
-            ((omega arith, omega arith), omega arith),
+            ((omega arith, omega arith), p .words),
           ),
         ),
       ),
@@ -85,13 +83,12 @@ part-short-start c = narrowed (c .before) .narrow .ensures .within
 part-short-end : tie.Need-part-short-end
 part-short-end c = search needs
 
--- Both tapes are sound; which of them is lent shows in what is shaded.
 shade-rows-requires : tie.Need-shade-rows-requires
 shade-rows-requires c κs =
     let n = narrowed (lent c) in
     let p = start (in-case n) .pre in
-    let short = narrow-level (n .narrow .ensures) (p .0) .sound in
-    (search (short, p .0 .sound), (p .1 .0, (p .1 .1 .0, p .1 .1 .1 .1 .1)))
+    let short = narrow-level (n .narrow .ensures) (p .level) .sound in
+    record { sound = search short; fits = p .fits; block = p .block .in-grid }
 
 same-length : tie.Need-same-length
 same-length c = search needs
@@ -104,13 +101,9 @@ same-length-3 c = search needs
 
 returns-2 : tie.Need-returns-2
 returns-2 c =
-    let v = c .before .shade-rows .ensures in
     let n = narrowed (lent (c .before .before)) in
-    let e = in-case n in (
-      shading-tight _ (topped e .seen-in .ensures)
-          (shading-narrowed (n .narrow .ensures) (v .0)),
-      v .1,
-    )
+    shading-tight _ (topped (in-case n) .seen-in .ensures)
+    (shading-narrowed (n .narrow .ensures) (c .before .shade-rows .ensures))
 
 pub visit-four-spec : {M : Type 1} → statement M
 visit-four-spec =

@@ -2,9 +2,8 @@
 use mathlib.Core.Path.{refl, _∙_}
 use mathlib.Core.Bool.{true}
 use native.Mathlib.Omega.{arith}
-use Rattle.walk.proofs.CellLaws.{first-in}
-use Rattle.slope_pixels.proofs.ShadeLaws.{fits-again}
-use Rattle.slope_blocks.proofs.WindowLaws.{all-shaded}
+use Rattle.walk.proofs.CellLaws.{small, first-in}
+use Rattle.slope_blocks.proofs.WindowLaws.{lent-again, all-shaded}
 use borrow.Author.Needs.{needs}
 use Rattle.slope_blocks.proofs.sixteens.shade.Statement.{statement}
 use Rattle.slope_blocks.proofs.sixteens.shade.Tie as tie
@@ -13,29 +12,29 @@ use Rattle.slope_blocks.proofs.sixteens.shade.Tie as tie
 abbrev start : tie.After-clear → tie.Start
 start c = c .before .before .before .before .before .before .before
 
-abbrev lent : tie.After-zs → tie.After-clear
-lent c = c .before .before .before .before .before .before .before .before .before
+abbrev lent : tie.After-sixteens-arg4 → tie.After-clear
+lent c = c .before .before .before .before .before
 
-abbrev called : tie.After-slice-known6 → tie.After-sixteen-rows
+abbrev called : tie.After-slice-known6 → tie.After-sixteens
 called c = c .before .before .before .before .before .before .before
 
 clear-requires : tie.Need-clear-requires
 clear-requires c κs = search needs
 
-sixteen-rows-requires : tie.Need-sixteen-rows-requires
-sixteen-rows-requires c κs =
+sixteens-requires : tie.Need-sixteens-requires
+sixteens-requires c κs =
     let k = lent c in
     let p = start k .pre in
-    let i = first-in true _ (p .1 .0 .heights .fault) in (
-      p .0,
-      (
-        fits-again (p .1 .0) (k .clear .kept .0),
-        (
-          record { x-some = i .x-in; x-in = omega arith; y-some = i .y-in; y-in = omega arith },
-          (p .1 .1, record { values = refl; xs = refl; ys = refl; zs = refl }),
-        ),
-      ),
-    )
+    let i = first-in true _ (p .fits .heights .fault) in
+    let d = small true _ (p .fits .heights .fault) in
+    record {
+      lent = lent-again p (k .clear .kept .0) refl refl refl;
+      block = record {
+        in-grid = record { x-some = i .x-in; x-in = omega arith; y-some = i .y-in; y-in = omega arith };
+        x-few = omega (arith, d .width);
+        y-few = omega (arith, d .height);
+      };
+    }
 
 same-length : tie.Need-same-length
 same-length c = search needs
@@ -53,16 +52,15 @@ returns : tie.Need-returns
 returns c =
     let v = called c in
     let k = lent (v .before) in
-    let p = start k .pre .1 in
-    all-shaded (p .0) (k .clear .ensures) (v .sixteen-rows .kept .1 .1 .1 .1 .0 ∙ k .clear .kept .0)
-    (v .sixteen-rows .ensures .0)
+    all-shaded (start k .pre .fits) (k .clear .ensures) (v .sixteens .kept .1 .1 .1 .1 .0 ∙ k .clear .kept .0)
+    (v .sixteens .ensures)
 
 pub shade-spec : {M : Type 1} → statement M
 shade-spec =
     tie.close
     (tie.spec
     clear-requires
-    sixteen-rows-requires
+    sixteens-requires
     same-length
     same-length-2
     same-length-3

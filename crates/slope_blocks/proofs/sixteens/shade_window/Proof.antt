@@ -17,19 +17,22 @@ start c = begun (c .before .before .before)
 abbrev narrowed : tie.After-slice-known5 → tie.After-narrow
 narrowed c = c .before .before .before .before
 
-abbrev lent : tie.After-four-rows-arg7 → tie.After-slice-known5
-lent c = c .before .before .before .before .before .before .before .before .before
+abbrev lent : tie.After-fours-arg3 → tie.After-slice-known5
+lent c = c .before .before .before .before .before
 
-abbrev called : tie.After-slice-known7 → tie.After-four-rows
+abbrev called : tie.After-slice-known7 → tie.After-fours
 called c = c .before .before .before .before .before
 
 narrow-requires : tie.Need-narrow-requires
 narrow-requires c κs =
     let p = begun (c .before .before) .pre in
-    let k = p .1 .1 .1 in
-    let r = k .0 in (
-      p .0,
-      (p .1 .0 .heights .fault, (p .1 .1 .0, (k .1 .0, ((omega arith, omega (arith, r .0)), r .1)))),
+    let l = p .sixteen .lent in
+    let m = l .marks in (
+      l .level,
+      (
+        l .fits .heights .fault,
+        (p .sixteen .block .in-grid, (p .window, ((omega arith, omega arith), l .words-first))),
+      ),
     )
 
 mul-short : tie.Need-mul-short
@@ -48,16 +51,20 @@ part-short-start c = narrowed (c .before) .narrow .ensures .within
 part-short-end : tie.Need-part-short-end
 part-short-end c = search needs
 
--- Both tapes are of the level; which of them is lent shows in what is shaded.
-four-rows-requires : tie.Need-four-rows-requires
-four-rows-requires c κs =
+fours-requires : tie.Need-fours-requires
+fours-requires c κs =
     let n = narrowed (lent c) in
     let p = start n .pre in
-    let k = p .1 .1 .1 in
-    let r = k .0 in
-    let w = n .narrow .kept .1 .1 .1 .1 .1 .0 in
-    let short = narrow-level (n .narrow .ensures) (p .0) in
-    (search (short, p .0), (p .1 .0, (p .1 .1 .0, ((omega (arith, r .0, w), r .2), k .1))))
+    let l = p .sixteen .lent in
+    let short = narrow-level (n .narrow .ensures) (l .level) in
+    record {
+      level = search short;
+      fits = l .fits;
+      block = p .sixteen .block;
+      window = p .window;
+      marks = omega (arith, l .marks, n .narrow .kept .1 .1 .1 .1 .1 .0);
+      words = l .words-second;
+    }
 
 same-length : tie.Need-same-length
 same-length c = search needs
@@ -74,8 +81,7 @@ same-length-4 c = search needs
 returns : tie.Need-returns
 returns c =
     let v = called c in
-    let n = narrowed (lent (v .before)) in
-    (shading-narrowed (n .narrow .ensures) (v .four-rows .ensures .0), v .four-rows .ensures .1)
+    shading-narrowed (narrowed (lent (v .before)) .narrow .ensures) (v .fours .ensures)
 
 pub shade-window-spec : {M : Type 1} → statement M
 shade-window-spec =
@@ -86,7 +92,7 @@ shade-window-spec =
     sub-short
     part-short-start
     part-short-end
-    four-rows-requires
+    fours-requires
     same-length
     same-length-2
     same-length-3

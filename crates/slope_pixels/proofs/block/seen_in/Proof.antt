@@ -29,22 +29,22 @@ abbrev past : tie.Else2 Inv-loop μ-loop → tie.At-loop Inv-loop μ-loop
 past c = c .before .before
 
 returns : tie.Need-returns Inv-loop μ-loop
-returns c = tight-none (begun (c .before) .pre .1 .1) (c .if1 .taken)
+returns c = tight-none (begun (c .before) .pre .some) (c .if1 .taken)
 
 loop-holds : tie.Need-loop-holds Inv-loop μ-loop
-loop-holds c = seen-rows _ (omega (arith, begun (c .before) .pre .1 .0 .y-some))
+loop-holds c = seen-rows _ (omega (arith, begun (c .before) .pre .block .y-some))
 
 seen-row-requires : tie.Need-seen-row-requires Inv-loop μ-loop
 seen-row-requires c κs =
     let p = start (at-test c) .pre in
-    (p .0, (p .1 .0, (at-test c .loop .inv .from, c .if2 .taken)))
+    record { heights = p .heights; block = p .block; from = at-test c .loop .inv .from; to = c .if2 .taken }
 
 add-y : tie.Need-add-y Inv-loop μ-loop
 add-y c =
     let t = c .before in
     let p = start (at-test t) .pre in
-    let d = small true _ (p .0 .fault) .height in
-    omega (arith, t .if2 .taken, p .1 .0 .y-in, d)
+    let d = small true _ (p .heights .fault) .height in
+    omega (arith, t .if2 .taken, p .block .y-in, d)
 
 loop-less : tie.Need-loop-less Inv-loop μ-loop
 loop-less c = omega (arith, c .before .if2 .taken)
@@ -57,7 +57,7 @@ loop-again c =
 returns-2 : tie.Need-returns-2 Inv-loop μ-loop
 returns-2 c =
     let l = past c in
-    tight-all (start l .pre .1 .1) (rows-all (l .loop .inv) (omega (arith, c .if2 .left)))
+    tight-all (start l .pre .some) (rows-all (l .loop .inv) (omega (arith, c .if2 .left)))
 
 pub seen-in-spec : {M : Type 1} → statement M
 seen-in-spec =

@@ -41,36 +41,36 @@ here : (c : tie.Then1 Inv-loop μ-loop)
     → (let a = start (at-test c) .args in
     Pixel (at-test c .loop .x) (a .y) (a .grid .width) (a .grid .height))
 here c =
-    let p = start (at-test c) .pre .1 in
-    record { x-in = omega (arith, c .if1 .taken, p .0 .x-in); y-in = omega (arith, p .1 .1, p .0 .y-in) }
+    let p = start (at-test c) .pre in
+    record { x-in = omega (arith, c .if1 .taken, p .block .x-in); y-in = omega (arith, p .to, p .block .y-in) }
 
 loop-holds : tie.Need-loop-holds Inv-loop μ-loop
-loop-holds c = let p = begun c .pre .1 in seen-columns _ (omega (arith, p .0 .x-some))
+loop-holds c = seen-columns _ (omega (arith, begun c .pre .block .x-some))
 
 mul-at : tie.Need-mul-at Inv-loop μ-loop
 mul-at c =
     let t = in-turn c in
-    omega (arith, pixel-most _ _ _ (here t .x-in) (here t .y-in) (start (at-test t) .pre .0))
+    omega (arith, pixel-most _ _ _ (here t .x-in) (here t .y-in) (start (at-test t) .pre .heights))
 
 add-at : tie.Need-add-at Inv-loop μ-loop
 add-at c =
     let t = in-turn c in
-    omega (arith, pixel-most _ _ _ (here t .x-in) (here t .y-in) (start (at-test t) .pre .0))
+    omega (arith, pixel-most _ _ _ (here t .x-in) (here t .y-in) (start (at-test t) .pre .heights))
 
 cast-at : tie.Need-cast-at Inv-loop μ-loop
 cast-at c =
     let t = in-turn c in
-    omega (arith, pixel-most _ _ _ (here t .x-in) (here t .y-in) (start (at-test t) .pre .0))
+    omega (arith, pixel-most _ _ _ (here t .x-in) (here t .y-in) (start (at-test t) .pre .heights))
 
 mul-join : tie.Need-mul-join Inv-loop μ-loop
 mul-join c =
     let t = in-turn c in
-    omega (arith, pixel-most _ _ _ (here t .x-in) (here t .y-in) (start (at-test t) .pre .0))
+    omega (arith, pixel-most _ _ _ (here t .x-in) (here t .y-in) (start (at-test t) .pre .heights))
 
 shared-slice-read-join : tie.Need-shared-slice-read-join Inv-loop μ-loop
 shared-slice-read-join c =
     let t = in-turn (c .before) in
-    pixel-in _ _ _ (here t .x-in) (here t .y-in) (start (at-test t) .pre .0)
+    pixel-in _ _ _ (here t .x-in) (here t .y-in) (start (at-test t) .pre .heights)
 
 join-requires : tie.Need-join-requires Inv-loop μ-loop
 join-requires c κs = search needs
@@ -78,8 +78,7 @@ join-requires c κs = search needs
 add-x : tie.Need-add-x Inv-loop μ-loop
 add-x c =
     let t = in-turn (c .before .before) in
-    let p = start (at-test t) .pre in
-    let d = small true _ (p .0 .fault) .width in
+    let d = small true _ (start (at-test t) .pre .heights .fault) .width in
     omega (arith, here t .x-in, d)
 
 loop-less : tie.Need-loop-less Inv-loop μ-loop

@@ -22,8 +22,8 @@ use Rattle.slope_pixels.proofs.pixels.shade_pixel.Statement.{statement}
 use Rattle.slope_pixels.proofs.pixels.shade_pixel.Tie as tie
 
 -- The places: the start, from the first lines; where the height is known; and the three calls for the sample's axes.
-abbrev begun : tie.After-struct-known → tie.Start
-begun c = c .before .before .before
+abbrev begun : tie.After-struct-known3 → tie.Start
+begun c = c .before .before .before .before .before
 
 abbrev at-test : tie.After-shared-slice-known3 → tie.Start
 at-test c = begun (c .before)
@@ -52,17 +52,17 @@ told c = in-words (c .struct-told .given)
 
 -- The height lies in the window: it is not 0, and at most the depth.
 in-window : (c : tie.After-struct-told)
-    → (let a = seen c .args in Seen (a .grid) (a .picture .now) (a .window) (a .x) (a .y))
+    → (let a = seen c .args in Seen (a .grid) (a .picture .now) (a .window) (a .pixel .x) (a .pixel .y))
 in-window c =
     record { above = omega (arith, tested c .if1 .left); most = omega (arith, c .before .if2 .left) }
 
 high : (c : tie.After-struct-told)
     → (let a = seen c .args in
-    let h = getD (a .picture .now) (a .y * a .grid .width + a .x) 0 in
+    let h = getD (a .picture .now) (a .pixel .y * a .grid .width + a .pixel .x) 0 in
     (1 ≤ h) × (h - 1 < a .grid .depth))
 high c =
     let a = seen c .args in
-    let m = seen c .pre .1 .0 .heights .most (a .y * a .grid .width + a .x) in
+    let m = seen c .pre .fits .heights .most (a .pixel .y * a .grid .width + a .pixel .x) in
     let n = in-window c .above in
     (omega arith, omega arith)
 
@@ -79,63 +79,66 @@ given c =
 made : (c : tie.After-sample3)
     → (let a = start c .args in
     given c
-    ≡ sampleAt (gridIn (a .grid) true) (a .x) (a .y) (getD (a .picture .now) (a .y * a .grid .width + a .x) 0 - 1))
+    ≡ sampleAt (gridIn (a .grid) true) (a .pixel .x) (a .pixel .y)
+    (getD (a .picture .now) (a .pixel .y * a .grid .width + a .pixel .x) 0 - 1))
 made c =
     let f = told (to-z (c .before)) in
     let y = c .before .before .before in
     let u = y .before .before .before .sample in
     let v = y .sample2 in
     let w = c .sample3 in
-    sample-same _ (start c .pre .1 .0 .heights .fault) _ _ _ _
+    sample-same _ (start c .pre .fits .heights .fault) _ _ _ _
     (back w32 _ (u .ok) (u .ensures ∙ at-words _ (f .xorigin) (f .xstep)))
     (back w32 _ (v .ok) (v .ensures ∙ at-words _ (f .yorigin) (f .ystep)))
     (back w32 _ (w .ok) (w .ensures ∙ at-words _ (f .zorigin) (f .zstep)))
 
 mul-at : tie.Need-mul-at
-mul-at c = let p = begun c .pre .1 in omega (arith, pixel-most _ _ _ (p .1 .0 .0) (p .1 .0 .1) (p .0 .heights))
+mul-at c =
+    let p = c .before .before .before .before .pre in
+    omega (arith, pixel-most _ _ _ (p .x-in) (p .y-in) (p .fits .heights))
 
 add-at : tie.Need-add-at
-add-at c = let p = begun c .pre .1 in omega (arith, pixel-most _ _ _ (p .1 .0 .0) (p .1 .0 .1) (p .0 .heights))
+add-at c = let p = begun c .pre in omega (arith, pixel-most _ _ _ (p .x-in) (p .y-in) (p .fits .heights))
 
 cast-at : tie.Need-cast-at
-cast-at c = let p = begun c .pre .1 in omega (arith, pixel-most _ _ _ (p .1 .0 .0) (p .1 .0 .1) (p .0 .heights))
+cast-at c = let p = begun c .pre in omega (arith, pixel-most _ _ _ (p .x-in) (p .y-in) (p .fits .heights))
 
 mul-height : tie.Need-mul-height
-mul-height c = let p = begun c .pre .1 in omega (arith, pixel-most _ _ _ (p .1 .0 .0) (p .1 .0 .1) (p .0 .heights))
+mul-height c = let p = begun c .pre in omega (arith, pixel-most _ _ _ (p .x-in) (p .y-in) (p .fits .heights))
 
 shared-slice-read-height : tie.Need-shared-slice-read-height
-shared-slice-read-height c = let p = at-test c .pre .1 in pixel-in _ _ _ (p .1 .0 .0) (p .1 .0 .1) (p .0 .heights)
+shared-slice-read-height c = let p = at-test c .pre in pixel-in _ _ _ (p .x-in) (p .y-in) (p .fits .heights)
 
 cast-height : tie.Need-cast-height
 cast-height c =
     let a = at-test c .args in
-    let p = at-test c .pre .1 .0 .heights in
+    let p = at-test c .pre .fits .heights in
     let d = small true _ (p .fault) .depth in
-    omega (arith, d, p .most (a .y * a .grid .width + a .x))
+    omega (arith, d, p .most (a .pixel .y * a .grid .width + a .pixel .x))
 
 returns : tie.Need-returns
 returns c =
     let s = at-test (c .before .before) in
-    (pixel-low (s .args .x) (s .args .y) _ (c .if1 .taken), s .pre .1 .1 .1)
+    (pixel-low (s .args .pixel .x) (s .args .pixel .y) _ (c .if1 .taken), s .pre .sized)
 
 returns-2 : tie.Need-returns-2
 returns-2 c =
     let s = at-test (c .before .before .before .before) in
-    (pixel-high (s .args .x) (s .args .y) _ (c .if2 .taken), s .pre .1 .1 .1)
+    (pixel-high (s .args .pixel .x) (s .args .pixel .y) _ (c .if2 .taken), s .pre .sized)
 
 sample-requires : tie.Need-sample-requires
 sample-requires c κs =
     let t = c .before in
     let f = told t in
-    let p = seen t .pre .1 in
-    rw (at-words _ (f .xorigin) (f .xstep)) (accepted _ true (p .0 .heights .fault) .x-value _ (p .1 .0 .0))
+    let p = seen t .pre in
+    rw (at-words _ (f .xorigin) (f .xstep)) (accepted _ true (p .fits .heights .fault) .x-value _ (p .x-in))
 
 sample-requires-2 : tie.Need-sample-requires-2
 sample-requires-2 c κs =
     let t = to-y c in
     let f = told t in
-    let p = seen t .pre .1 in
-    rw (at-words _ (f .yorigin) (f .ystep)) (accepted _ true (p .0 .heights .fault) .y-value _ (p .1 .0 .1))
+    let p = seen t .pre in
+    rw (at-words _ (f .yorigin) (f .ystep)) (accepted _ true (p .fits .heights .fault) .y-value _ (p .y-in))
 
 sub-sample : tie.Need-sub-sample
 sub-sample c = high (to-y (c .before)) .0
@@ -144,25 +147,23 @@ sample-requires-3 : tie.Need-sample-requires-3
 sample-requires-3 c κs =
     let t = to-z c in
     let f = told t in
-    let p = seen t .pre .1 in
-    rw (at-words _ (f .zorigin) (f .zstep)) (accepted _ true (p .0 .heights .fault) .z-value refl _ (high t .1))
+    let p = seen t .pre in
+    rw (at-words _ (f .zorigin) (f .zstep)) (accepted _ true (p .fits .heights .fault) .z-value refl _ (high t .1))
 
 run-slopes-requires : tie.Need-run-slopes-requires
 run-slopes-requires c κs =
     let t = c .before .before .before .before in
     let p = start t .pre in
-    let k = p .1 .1 .0 in (
-      sound-runs (p .0),
-      (
-        sample-ok _ (p .1 .0 .heights .fault) _ _ _ (k .0) (k .1) (high (to-z (t .before)) .1) _ (made t),
-        p .1 .1 .1,
-      ),
-    )
+    let s = sample-ok _ (p .fits .heights .fault) _ _ _ (p .x-in) (p .y-in) (high (to-z (t .before)) .1) _ (made t) in
+    (sound-runs (p .sound), (s, p .sized))
 
 put-requires : tie.Need-put-requires
 put-requires c κs =
-    let p = start (ran c .before .before .before .before .before) .pre .1 in
-    (three-in _ _ _ (p .1 .0 .0) (p .1 .0 .1) (p .0), pixel-most _ _ _ (p .1 .0 .0) (p .1 .0 .1) (p .0 .heights))
+    let p = start (ran c .before .before .before .before .before) .pre in
+    record {
+      three = three-in _ _ _ (p .x-in) (p .y-in) (p .fits);
+      few = pixel-most _ _ _ (p .x-in) (p .y-in) (p .fits .heights);
+    }
 
 same-length : tie.Need-same-length
 same-length c = search needs
@@ -172,18 +173,17 @@ returns-3 c =
     let r = ran (c .before .before) in
     let t = r .before .before .before .before .before in
     let a = start t .args in
-    let q = start t .pre .0 in
-    let p = start t .pre .1 in
+    let p = start t .pre in
     let f = r .run-slopes .ensures in
-    let v = f .0 .values (q .slots) (q .accepted) in
-    let h = getD (a .picture .now) (a .y * a .grid .width + a .x) 0 in
+    let v = f .0 .values (p .sound .slots) (p .sound .accepted) in
+    let h = getD (a .picture .now) (a .pixel .y * a .grid .width + a .pixel .x) 0 in
     let w = to-z (t .before) in (
-      sample-shaded (p .0) _ _ (p .1 .0 .0) (p .1 .0 .1) _ (h - 1) (in-window w) (omega (arith, high w .0))
+      sample-shaded (p .fits) _ _ (p .x-in) (p .y-in) _ (h - 1) (in-window w) (omega (arith, high w .0))
           (r .run-slopes .result)
           (subst (λ (s : Sample). Sloping (a .code .now) s (r .run-slopes .result)) (made t) (f .0))
           (c .before .put .ensures
-          ∙ put-words (a .slopes .now) (a .y * a .grid .width + a .x) (value-fits _ (v .x)) (value-fits _ (v .y))
-          (value-fits _ (v .z))),
+          ∙ put-words (a .slopes .now) (a .pixel .y * a .grid .width + a .pixel .x) (value-fits _ (v .x))
+          (value-fits _ (v .y)) (value-fits _ (v .z))),
       f .1,
     )
 

@@ -1,10 +1,11 @@
 -- The rows of a block.
+use mathlib.Core.Path.{refl}
 use mathlib.Core.Bool.{true}
-use Prim.Native.Nat.{_+_, _-_}
+use Prim.Native.Nat.{_+_, _-_, _<_}
 use native.Mathlib.Omega.{arith}
 use Rattle.slope_runs.specs.Shapes.{slotsOf, Sized}
 use Rattle.walk.proofs.CellLaws.{small}
-use Rattle.slope_pixels.proofs.ShadeLaws.{fits-again, AtRow, rows-begin, rows-next, rows-done}
+use Rattle.slope_pixels.proofs.ShadeLaws.{row-in, fits-again, AtRow, rows-begin, rows-next, rows-done}
 use Rattle.slope_pixels.proofs.pixels.shade_rows.Statement.{statement}
 use Rattle.slope_pixels.proofs.pixels.shade_rows.Tie as tie
 
@@ -25,28 +26,39 @@ start c = begun (c .before)
 abbrev at-test : tie.Then1 Inv-loop μ-loop → tie.At-loop Inv-loop μ-loop
 at-test c = c .before .before
 
+abbrev lent : tie.After-zs Inv-loop μ-loop → tie.Then1 Inv-loop μ-loop
+lent c = c .before .before .before .before .before
+
 abbrev in-turn : tie.After-slopes Inv-loop μ-loop → tie.Then1 Inv-loop μ-loop
-in-turn c = c .before .before .before .before .before .before .before
+in-turn c = lent (c .before .before)
 
 abbrev past : tie.Else1 Inv-loop μ-loop → tie.At-loop Inv-loop μ-loop
 past c = c .before .before
 
 loop-holds : tie.Need-loop-holds Inv-loop μ-loop
-loop-holds c = let p = begun c .pre .1 .1 in (rows-begin (p .0) _, p .1)
+loop-holds c = (rows-begin (begun c .pre .block) _, record { values = refl; xs = refl; ys = refl; zs = refl })
+
+below : (c : tie.Then1 Inv-loop μ-loop) → at-test c .loop .y < 512
+below c =
+    let p = start (at-test c) .pre in
+    let d = small true _ (p .fits .heights .fault) .height in
+    omega (arith, c .if1 .taken, p .block .y-in, d)
+
+add-next : tie.Need-add-next Inv-loop μ-loop
+add-next c = omega (arith, below c)
 
 shade-row-requires : tie.Need-shade-row-requires Inv-loop μ-loop
 shade-row-requires c κs =
-    let t = c .before .before .before .before .before in
+    let t = lent c in
     let i = at-test t .loop .inv in
-    let s = start (at-test t) in
-    (s .pre .0, (fits-again (s .pre .1 .0) (i .0 .size), (s .pre .1 .1 .0, ((i .0 .from, t .if1 .taken), i .1))))
-
-add-y : tie.Need-add-y Inv-loop μ-loop
-add-y c =
-    let t = in-turn c in
-    let p = start (at-test t) .pre .1 in
-    let d = small true _ (p .0 .heights .fault) .height in
-    omega (arith, t .if1 .taken, p .1 .0 .y-in, d)
+    let p = start (at-test t) .pre in
+    record {
+      sound = p .sound;
+      fits = fits-again (p .fits) (i .0 .size);
+      block = row-in _ (p .block) (i .0 .from) (t .if1 .taken);
+      one = refl;
+      sized = i .1;
+    }
 
 loop-less : tie.Need-loop-less Inv-loop μ-loop
 loop-less c = omega (arith, in-turn c .if1 .taken)
@@ -56,7 +68,7 @@ loop-again c =
     let v = c .before .shade-row in
     let t = in-turn c in
     let l = at-test t in (
-      rows-next (start l .pre .1 .1 .0) (l .loop .y + 1) (l .loop .inv .0) (omega arith) (omega (arith, t .if1 .taken))
+      rows-next (start l .pre .block) (l .loop .y + 1) (l .loop .inv .0) (omega arith) (omega (arith, t .if1 .taken))
           (v .ensures .0) (v .kept .1 .1 .1 .0),
       v .ensures .1,
     )
@@ -65,7 +77,7 @@ same-length : tie.Need-same-length Inv-loop μ-loop
 same-length c = past c .loop .inv .0 .size
 
 returns : tie.Need-returns Inv-loop μ-loop
-returns c = let i = past c .loop .inv in (rows-done (i .0) (omega (arith, c .if1 .left)), i .1)
+returns c = rows-done (past c .loop .inv .0) (omega (arith, c .if1 .left))
 
 pub shade-rows-spec : {M : Type 1} → statement M
 shade-rows-spec =
@@ -74,8 +86,8 @@ shade-rows-spec =
     Inv-loop
     μ-loop
     loop-holds
+    add-next
     shade-row-requires
-    add-y
     loop-less
     loop-again
     same-length
