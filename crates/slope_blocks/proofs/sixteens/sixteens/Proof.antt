@@ -61,7 +61,7 @@ loop-holds : tie.Need-loop-holds Inv-loop μ-loop
 loop-holds c = (blocks-begin (parent (begun (c .before))) _, refl, refl, refl)
 
 child-requires : tie.Need-child-requires Inv-loop μ-loop
-child-requires c κs = (parent (start (c .before)), more c)
+child-requires c κs = record { parent = parent (start (c .before)); more = more c }
 
 visit-sixteen-requires : tie.Need-visit-sixteen-requires Inv-loop μ-loop
 visit-sixteen-requires c κs =
