@@ -38,8 +38,11 @@ pub mod call;
 pub mod compile;
 pub mod draw;
 pub mod edition;
+#[cfg(test)]
+mod examples;
 pub mod fault;
 pub mod formula;
+pub mod merge;
 pub mod netpbm;
 pub mod probe;
 pub mod program;
