@@ -68,7 +68,8 @@ impl Picture for u16 {
     }
 }
 
-fn checked<P: Picture>(tape: &[u8], grid: &Grid, picture: &[P]) -> Result<Tape, Refused> {
+/// Lines 1 to 12.
+pub(crate) fn checked<P: Picture>(tape: &[u8], grid: &Grid, picture: &[P]) -> Result<Tape, Refused> {
     if planted(Fault::GridBeforeTape) {
         grid.check(P::SOLID)?;
     }

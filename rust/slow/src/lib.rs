@@ -44,6 +44,7 @@ pub mod fault;
 pub mod formula;
 pub mod merge;
 pub mod netpbm;
+pub mod order;
 pub mod probe;
 pub mod program;
 pub mod seen;
