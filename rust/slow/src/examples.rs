@@ -15,6 +15,16 @@ pub fn axis_less(axis: i32, length: i32) -> Tape {
     tape(2, &[[axis, 0, 0, 0, 0], [0, 1, 0, 0, length * ONE], [10, 0, 0, 1, 0]])
 }
 
+/// root((x − 60)² + (y − 40)²) − 30: 12 clauses in 3 slots.
+pub fn disc() -> Tape {
+    let square = |axis: i32, slot: i32, middle: i32| {
+        [[axis, slot, 0, 0, 0], [0, 2, 0, 0, middle * ONE], [10, slot, slot, 2, 0], [7, slot, slot, 0, 0]]
+    };
+    let mut list = [square(1, 0, 60), square(2, 1, 40)].concat();
+    list.extend([[9, 0, 0, 1, 0], [8, 0, 0, 0, 0], [0, 1, 0, 0, 30 * ONE], [10, 0, 0, 1, 0]]);
+    tape(3, &list)
+}
+
 /// So many constants in slot 0.
 pub fn constants(slots: u32, clauses: usize, constant: i32) -> Tape {
     tape(slots, &vec![[0, 0, 0, 0, constant]; clauses])

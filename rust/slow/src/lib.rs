@@ -47,6 +47,7 @@ pub mod netpbm;
 pub mod order;
 pub mod probe;
 pub mod program;
+pub mod reason;
 pub mod seen;
 pub mod slopes;
 mod slots;

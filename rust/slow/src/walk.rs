@@ -6,7 +6,7 @@ use crate::fault::{Fault, planted};
 use crate::seen::{Event, note};
 use crate::tape::Tape;
 
-const FLAT: [u32; 3] = [64, 8, 1];
+pub const FLAT: [u32; 3] = [64, 8, 1];
 const SOLID: [u32; 4] = [64, 16, 4, 1];
 
 /// A region: its first indices, and those behind its last ones.
@@ -37,6 +37,11 @@ impl Region {
         regions
     }
 
+    /// Whether the pixel is one of its own.
+    pub fn holds(&self, x: u32, y: u32) -> bool {
+        (self.first[0]..self.end[0]).contains(&x) && (self.first[1]..self.end[1]).contains(&y)
+    }
+
     /// The places of its pixels in row order.
     pub fn pixels(&self, grid: &Grid) -> Vec<usize> {
         let width = grid.sizes[0] as usize;
@@ -50,10 +55,14 @@ impl Region {
     }
 }
 
+/// The region of all samples.
+pub fn whole(grid: &Grid, solid: bool) -> Region {
+    Region { first: [0; 3], end: [grid.sizes[0], grid.sizes[1], grid.layers(solid)] }
+}
+
 /// The 64-tiles, as the walk meets them.
 pub fn tiles(grid: &Grid, solid: bool) -> Vec<Region> {
-    let all = Region { first: [0; 3], end: [grid.sizes[0], grid.sizes[1], grid.layers(solid)] };
-    all.cut(FLAT[0])
+    whole(grid, solid).cut(FLAT[0])
 }
 
 /// What a range decides of its region.
