@@ -51,6 +51,7 @@ pub mod reason;
 pub mod seen;
 pub mod slopes;
 mod slots;
+pub mod swept;
 pub mod tape;
 pub mod text;
 pub mod walk;
