@@ -74,9 +74,14 @@ pub(crate) fn checked<P: Picture>(tape: &[u8], grid: &Grid, picture: &[P]) -> Re
         grid.check(P::SOLID)?;
     }
     let tape = Tape::from_bytes(tape)?;
-    grid.check(P::SOLID)?;
-    exact_len(picture, grid.picture_len(P::SOLID), 12)?;
+    fits(grid, picture)?;
     Ok(tape)
+}
+
+/// Lines 10 to 12.
+pub(crate) fn fits<P: Picture>(grid: &Grid, picture: &[P]) -> Result<(), Refused> {
+    grid.check(P::SOLID)?;
+    exact_len(picture, grid.picture_len(P::SOLID), 12)
 }
 
 /// The full drawing, flat or solid by the picture's type.

@@ -15,6 +15,11 @@ pub fn axis_less(axis: i32, length: i32) -> Tape {
     tape(2, &[[axis, 0, 0, 0, 0], [0, 1, 0, 0, length * ONE], [10, 0, 0, 1, 0]])
 }
 
+/// So many units of length less an axis.
+pub fn less_axis(length: i32, axis: i32) -> Tape {
+    tape(2, &[[0, 0, 0, 0, length * ONE], [axis, 1, 0, 0, 0], [10, 0, 0, 1, 0]])
+}
+
 /// root((x − 60)² + (y − 40)²) − 30: 12 clauses in 3 slots.
 pub fn disc() -> Tape {
     let square = |axis: i32, slot: i32, middle: i32| {

@@ -45,6 +45,7 @@ pub mod formula;
 pub mod merge;
 pub mod netpbm;
 pub mod order;
+pub mod plate;
 pub mod probe;
 pub mod program;
 pub mod reason;

@@ -49,6 +49,16 @@ impl Region {
         rows.flat_map(|y| columns.clone().map(move |x| y as usize * width + x as usize)).collect()
     }
 
+    /// The places of a flat picture's bytes that have its pixels, for a region of whole bytes such as a 64-tile.
+    pub fn bytes(&self, grid: &Grid) -> Vec<usize> {
+        let mut bytes = Vec::new();
+        let row = grid.sizes[0].div_ceil(8) as usize;
+        for y in self.first[1]..self.end[1] {
+            bytes.extend((self.first[0] / 8..self.end[0].div_ceil(8)).map(|x| y as usize * row + x as usize));
+        }
+        bytes
+    }
+
     /// The tape's range over it, and each clause's choice.
     pub fn range(&self, tape: &Tape, grid: &Grid, solid: bool) -> (Range, Vec<Choice>) {
         tape.range_over(grid.axes(solid, self.first, self.end.map(|e| e - 1)))
