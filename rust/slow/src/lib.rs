@@ -53,6 +53,7 @@ pub mod seen;
 pub mod slopes;
 mod slots;
 pub mod swept;
+pub mod table;
 pub mod tape;
 pub mod text;
 pub mod walk;

@@ -136,6 +136,11 @@ impl Walk<'_> {
         }
     }
 
+    /// Visits a 64-tile, with the whole tape.
+    pub fn visit_tile(&mut self, tape: &Tape, tile: &Region) {
+        self.visit_all(tape, &[*tile], 0);
+    }
+
     /// Visits the regions that a 64-tile is cut into, with its short tape.
     pub fn visit_inside(&mut self, short: &Tape, tile: &Region) {
         self.visit_all(short, &tile.cut(self.sides[1]), 1);
