@@ -184,7 +184,7 @@ mod tests {
         clauses as u64
     }
 
-    /// Each pixel lies in just one such region, whose reason it has and whose sign decides it; the counts are the walk's.
+    /// Each pixel lies in just one such region, whose reason it has and whose sign decides it; the sum is the walk's.
     #[test]
     fn every_pixel() {
         for (part, grid) in
