@@ -60,13 +60,15 @@ tile-solid-requires c κs =
     let o = u .unpack-words .ensures in
     let h = long u in
     let few = words-few d o h in
-    let within = words-within d o h in (
-      whole-level d o h,
-      (
-        record { fault = d .grid; size = d .size ∙ sym (solid-size true _ refl) },
-        (omega arith, omega arith, omega arith, omega arith),
-      ),
-    )
+    let within = words-within d o h in
+    record {
+      level = whole-level d o h;
+      ready = record { fault = d .grid; size = d .size ∙ sym (solid-size true _ refl) };
+      room = omega arith;
+      first = omega arith;
+      second = omega arith;
+      third = omega arith;
+    }
 
 slice-reshare-prefix-shade : tie.Need-slice-reshare-prefix-shade
 slice-reshare-prefix-shade c =
