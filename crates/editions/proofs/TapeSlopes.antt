@@ -17,7 +17,7 @@ use Rattle.code.specs.Unpacking.{Unpacked}
 use Rattle.picture.specs.Shapes.{gridIn}
 use Rattle.picture.specs.declared.grid.Grid.{Grid}
 use Rattle.picture.proofs.Grids.{accepted}
-use Rattle.shading.specs.Narrow.{Shaded}
+use Rattle.slope_blocks.specs.Narrow.{Shaded}
 use Rattle.editions.specs.Sizes.{Draws, TilesOf, SlopesOf}
 use Rattle.editions.proofs.TapeWords.{words-accepted, words-tape}
 

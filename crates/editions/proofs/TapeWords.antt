@@ -1,23 +1,24 @@
 -- The words of an unpacked tape: how many, that they run, and that what they draw is what the tape draws.
-use mathlib.Core.Path.{_≡_, ap, _∙_}
+use mathlib.Core.Path.{_≡_, sym, ap, _∙_}
 use mathlib.Core.Bool.{Bool}
 use mathlib.Core.List.{List}
 use Prim.Native.Nat.{ℕ, _≤_}
 use native.Mathlib.Omega.{arith}
-use lib.ListN.{length, take}
+use lib.ListN.{length, take, replicate}
 use lib.Seq.{length-take-le}
 use Rattle.rules.specs.Tapes.{readTape, clauseLimit}
 use Rattle.rules.specs.Drawings as D
 use Rattle.rules.specs.Pictures.{picture}
 use Rattle.rules.specs.Accepted.{Accepted}
 use Rattle.rules.proofs.Accepted.{accepted-tape}
-use Rattle.code.specs.Words.{tapeIn}
+use Rattle.code.specs.Words.{tapeIn, placesFrom}
 use Rattle.code.specs.Unpacking.{Unpacked}
 use Rattle.code.proofs.WordTapes.{words-runnable, unpacked-tape, unpacked-accepted}
 use Rattle.picture.specs.Shapes.{gridIn}
 use Rattle.picture.specs.declared.grid.Grid.{Grid}
 use Rattle.full_drawing.specs.Full.{Drawable, FullDrawn}
-use Rattle.walk.specs.Walks.{Sound, Walked}
+use Rattle.shortening.proofs.KeptLaws.{whole-is-kept}
+use Rattle.walk.specs.Walks.{Sound, Level, Walked}
 use Rattle.editions.specs.Sizes.{Draws, FullOf, TilesOf}
 
 -- The words of a tape that is accepted and unpacked: how many, and that they run.
@@ -47,6 +48,16 @@ module _ {t : Bool} {s : List ℕ} {g : D.Grid} {n m : ℕ} (d : Draws t s g n m
 
   pub sound : Sound (take k ws′)
   sound = record { slots = readTape s .tape .slots; accepted = words-accepted }
+
+  -- They are the tape as given, each word at its own place.
+  pub whole-level : Level (take k ws′) (take k ws′)
+  whole-level =
+      let e : k ≡ length (take k ws′) = sym (length-take-le k ws′ words-room) in
+      record {
+        sound = sound;
+        kept = whole-is-kept (take k ws′) words-few
+            (o .tags ∙ ap (λ (j : ℕ). placesFrom 0 (replicate j 1)) e);
+      }
 
   -- What these words draw, the tape draws.
   pub full-of : {o′ : List ℕ} {c : ℕ} → FullDrawn t (take k ws′) g o′ c → FullOf t s g o′ c

@@ -2,7 +2,7 @@
 // the levels that the drawing has left.
 use code::unpack::unpack_words;
 use picture::grid::Grid;
-use shading::sixteens::shade;
+use slope_blocks::sixteens::shade;
 use solid_tiles::tiles::tile_solid;
 use tape::CLAUSE_LIMIT;
 use tape::FIRST_CLAUSES;
@@ -23,49 +23,21 @@ fn slope_words(
     slopes: &mut [i32],
     work: &mut [u8],
     words: &mut [u64],
-    places: &mut [u16],
     first: &mut [u64],
-    firstplaces: &mut [u16],
     second: &mut [u64],
-    secondplaces: &mut [u16],
     third: &mut [u64],
-    thirdplaces: &mut [u16],
 ) -> u64
     requires { ⌜ Draws true (now tape) (gridIn grid true) (length (now picture)) (length (now words)) ⌝ }
     requires { ⌜ length (now slopes) ≡ 3 * (grid .width * grid .height) ⌝ }
     requires { ⌜ workLimit ≤ length (now work) ⌝ }
-    requires { ⌜ (length (now places) ≡ length (now words))
-        × (length (now first) ≡ length (now words)) × (length (now firstplaces) ≡ length (now words))
-        × (length (now second) ≡ length (now words)) × (length (now secondplaces) ≡ length (now words))
-        × (length (now third) ≡ length (now words)) × (length (now thirdplaces) ≡ length (now words)) ⌝ }
+    requires { ⌜ (length (now first) ≡ length (now words))
+        × (length (now second) ≡ length (now words))
+        × (length (now third) ≡ length (now words)) ⌝ }
     ensures { λ r. ⌜ SlopesOf (now (tape .entry)) (gridIn grid true) (now (picture .exit)) (now (slopes .exit)) r ⌝ }
 {
     let n = unpack_words(tape, words);
-    let count = tile_solid(
-        &words[..n],
-        places,
-        grid,
-        picture,
-        work,
-        first,
-        firstplaces,
-        second,
-        secondplaces,
-        third,
-        thirdplaces,
-    );
-    shade(
-        &words[..n],
-        places,
-        grid,
-        picture,
-        slopes,
-        work,
-        first,
-        firstplaces,
-        second,
-        secondplaces,
-    );
+    let count = tile_solid(&words[..n], grid, picture, work, first, second, third);
+    shade(&words[..n], grid, picture, slopes, work, first, second);
     count
 }
 
@@ -82,13 +54,9 @@ pub fn slope_few(
     ensures { λ r. ⌜ SlopesOf (now (tape .entry)) (gridIn grid true) (now (picture .exit)) (now (slopes .exit)) r ⌝ }
 {
     let mut words = [0u64; FIRST_CLAUSES];
-    let mut places = [0u16; FIRST_CLAUSES];
     let mut first = [0u64; FIRST_CLAUSES];
-    let mut firstplaces = [0u16; FIRST_CLAUSES];
     let mut second = [0u64; FIRST_CLAUSES];
-    let mut secondplaces = [0u16; FIRST_CLAUSES];
     let mut third = [0u64; FIRST_CLAUSES];
-    let mut thirdplaces = [0u16; FIRST_CLAUSES];
     slope_words(
         tape,
         grid,
@@ -96,13 +64,9 @@ pub fn slope_few(
         slopes,
         work,
         &mut words,
-        &mut places,
         &mut first,
-        &mut firstplaces,
         &mut second,
-        &mut secondplaces,
         &mut third,
-        &mut thirdplaces,
     )
 }
 
@@ -119,13 +83,9 @@ pub fn slope_many(
     ensures { λ r. ⌜ SlopesOf (now (tape .entry)) (gridIn grid true) (now (picture .exit)) (now (slopes .exit)) r ⌝ }
 {
     let mut words = [0u64; CLAUSE_LIMIT];
-    let mut places = [0u16; CLAUSE_LIMIT];
     let mut first = [0u64; CLAUSE_LIMIT];
-    let mut firstplaces = [0u16; CLAUSE_LIMIT];
     let mut second = [0u64; CLAUSE_LIMIT];
-    let mut secondplaces = [0u16; CLAUSE_LIMIT];
     let mut third = [0u64; CLAUSE_LIMIT];
-    let mut thirdplaces = [0u16; CLAUSE_LIMIT];
     slope_words(
         tape,
         grid,
@@ -133,12 +93,8 @@ pub fn slope_many(
         slopes,
         work,
         &mut words,
-        &mut places,
         &mut first,
-        &mut firstplaces,
         &mut second,
-        &mut secondplaces,
         &mut third,
-        &mut thirdplaces,
     )
 }

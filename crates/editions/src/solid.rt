@@ -30,43 +30,26 @@ pub fn draw_many(tape: &[u8], grid: Grid, picture: &mut [u16]) -> u64
     full_drawing::solid::draw_solid(&words[..n], grid, picture)
 }
 
-// The walk of the tape's words, in buffers that are lent: for the words, and for the words and places of each level.
+// The walk of the tape's words, in buffers that are lent: for the words, and for those of each level.
 fn tile_words(
     tape: &[u8],
     grid: Grid,
     picture: &mut [u16],
     work: &mut [u8],
     words: &mut [u64],
-    places: &mut [u16],
     first: &mut [u64],
-    firstplaces: &mut [u16],
     second: &mut [u64],
-    secondplaces: &mut [u16],
     third: &mut [u64],
-    thirdplaces: &mut [u16],
 ) -> u64
     requires { ⌜ Draws true (now tape) (gridIn grid true) (length (now picture)) (length (now words)) ⌝ }
     requires { ⌜ workLimit ≤ length (now work) ⌝ }
-    requires { ⌜ (length (now places) ≡ length (now words))
-        × (length (now first) ≡ length (now words)) × (length (now firstplaces) ≡ length (now words))
-        × (length (now second) ≡ length (now words)) × (length (now secondplaces) ≡ length (now words))
-        × (length (now third) ≡ length (now words)) × (length (now thirdplaces) ≡ length (now words)) ⌝ }
+    requires { ⌜ (length (now first) ≡ length (now words))
+        × (length (now second) ≡ length (now words))
+        × (length (now third) ≡ length (now words)) ⌝ }
     ensures { λ r. ⌜ TilesOf true (now (tape .entry)) (gridIn grid true) (now (picture .exit)) r ⌝ }
 {
     let n = unpack_words(tape, words);
-    solid_tiles::tiles::tile_solid(
-        &words[..n],
-        places,
-        grid,
-        picture,
-        work,
-        first,
-        firstplaces,
-        second,
-        secondplaces,
-        third,
-        thirdplaces,
-    )
+    solid_tiles::tiles::tile_solid(&words[..n], grid, picture, work, first, second, third)
 }
 
 pub fn tile_few(tape: &[u8], grid: Grid, picture: &mut [u16], work: &mut [u8]) -> u64
@@ -75,26 +58,18 @@ pub fn tile_few(tape: &[u8], grid: Grid, picture: &mut [u16], work: &mut [u8]) -
     ensures { λ r. ⌜ TilesOf true (now (tape .entry)) (gridIn grid true) (now (picture .exit)) r ⌝ }
 {
     let mut words = [0u64; FIRST_CLAUSES];
-    let mut places = [0u16; FIRST_CLAUSES];
     let mut first = [0u64; FIRST_CLAUSES];
-    let mut firstplaces = [0u16; FIRST_CLAUSES];
     let mut second = [0u64; FIRST_CLAUSES];
-    let mut secondplaces = [0u16; FIRST_CLAUSES];
     let mut third = [0u64; FIRST_CLAUSES];
-    let mut thirdplaces = [0u16; FIRST_CLAUSES];
     tile_words(
         tape,
         grid,
         picture,
         work,
         &mut words,
-        &mut places,
         &mut first,
-        &mut firstplaces,
         &mut second,
-        &mut secondplaces,
         &mut third,
-        &mut thirdplaces,
     )
 }
 
@@ -104,25 +79,17 @@ pub fn tile_many(tape: &[u8], grid: Grid, picture: &mut [u16], work: &mut [u8]) 
     ensures { λ r. ⌜ TilesOf true (now (tape .entry)) (gridIn grid true) (now (picture .exit)) r ⌝ }
 {
     let mut words = [0u64; CLAUSE_LIMIT];
-    let mut places = [0u16; CLAUSE_LIMIT];
     let mut first = [0u64; CLAUSE_LIMIT];
-    let mut firstplaces = [0u16; CLAUSE_LIMIT];
     let mut second = [0u64; CLAUSE_LIMIT];
-    let mut secondplaces = [0u16; CLAUSE_LIMIT];
     let mut third = [0u64; CLAUSE_LIMIT];
-    let mut thirdplaces = [0u16; CLAUSE_LIMIT];
     tile_words(
         tape,
         grid,
         picture,
         work,
         &mut words,
-        &mut places,
         &mut first,
-        &mut firstplaces,
         &mut second,
-        &mut secondplaces,
         &mut third,
-        &mut thirdplaces,
     )
 }

@@ -9,20 +9,20 @@ use walk::cell::Cell;
 ghost use mathlib.Core.Path.{_≡_};
 ghost use mathlib.Core.Bool.{false};
 ghost use mathlib.Core.List.{[]};
-ghost use Prim.Native.Nat.{ℕ, _+_, _-_, _%_, _<_, _≤_};
+ghost use Prim.Native.Nat.{ℕ, _+_, _-_, _<_, _≤_};
 ghost use lib.Dec.{ltb};
 ghost use lib.ListN.{length};
 ghost use Rattle.rules.specs.Values.{pick, isNeg};
 ghost use Rattle.rules.specs.Tapes.{slotLimit};
-ghost use Rattle.rules.specs.Drawings.{sizeLimit, gridFault, alongX, alongY};
+ghost use Rattle.rules.specs.Drawings.{sizeLimit, alongX, alongY};
 ghost use Rattle.rules.specs.Accepted.{Accepted};
 ghost use Rattle.code.specs.Words.{tapeIn};
 ghost use Rattle.picture.specs.Bits.{rowByte};
-ghost use Rattle.picture.specs.Parts.{Blank, Apart};
+ghost use Rattle.picture.specs.Parts.{Apart};
 ghost use Rattle.picture.specs.Shapes.{gridIn};
-ghost use Rattle.walk.specs.Cells.{Ready, CellOk, SpanIn};
-ghost use Rattle.walk.specs.Walks.{Sound, Folds};
+ghost use Rattle.walk.specs.Walks.{Folds};
 ghost use Rattle.flat_samples.specs.Rows.{materials, LaneSamples, SignByte};
+ghost use Rattle.flat_samples.specs.Asked.{ForLanes, ForByte, ForRow, ForRows};
 
 // The index of a lane's sample: past the end the last one's again, so that every lane runs on a sample.
 fn lane_index(from: u32, end: u32, k: usize) -> u32
@@ -35,8 +35,7 @@ fn lane_index(from: u32, end: u32, k: usize) -> u32
 
 // The samples of an axis from an index on, one a lane.
 fn lane_samples(origin: i32, step: i32, from: u32, end: u32) -> [i32; 8]
-    requires { ⌜ SpanIn origin step from end ⌝ }
-    requires { ⌜ end ≤ sizeLimit ⌝ }
+    requires { ⌜ ForLanes origin step from end ⌝ }
     ensures { λ r. ⌜ LaneSamples origin step from end r ⌝ }
 {
     let mut r = [0i32; 8];
@@ -79,12 +78,7 @@ fn row_byte(
     y: u32,
     slots: &mut [[i32; 8]; SLOT_LIMIT],
 ) -> u8
-    requires { ⌜ Sound (now code) ⌝ }
-    requires { ⌜ gridFault false (gridIn grid false) ≡ 0 ⌝ }
-    requires { ⌜ CellOk 1 grid parent ⌝ }
-    requires { ⌜ (parent .side ≡ 8) × (y < parent .yend) ⌝ }
-    requires { ⌜ LaneSamples (grid .xorigin) (grid .xstep) (parent .x) (parent .xend) xs ⌝ }
-    requires { ⌜ length (now slots) ≡ slotLimit ⌝ }
+    requires { ⌜ ForByte (now code) grid parent xs y (now slots) ⌝ }
     ensures { λ r. ⌜ ((n : ℕ) → Accepted (tapeIn n (now (code .entry)))
         → r ≡ rowByte (materials (parent .xend - parent .x) (tapeIn n (now (code .entry))) (gridIn grid false)
         (parent .x) y)) ⌝ }
@@ -105,13 +99,7 @@ fn sample_row(
     slots: &mut [[i32; 8]; SLOT_LIMIT],
     picture: &mut [u8],
 ) -> u64
-    requires { ⌜ Sound (now code) ⌝ }
-    requires { ⌜ Ready false grid (now picture) ⌝ }
-    requires { ⌜ CellOk 1 grid parent ⌝ }
-    requires { ⌜ (parent .side ≡ 8) × (parent .x % 8 ≡ 0) × (y < parent .yend) ⌝ }
-    requires { ⌜ LaneSamples (grid .xorigin) (grid .xstep) (parent .x) (parent .xend) xs ⌝ }
-    requires { ⌜ length (now slots) ≡ slotLimit ⌝ }
-    requires { ⌜ Blank (grid .width) (parent .x) (parent .x + 8) y (y + 1) (now picture) ⌝ }
+    requires { ⌜ ForRow (now code) grid parent xs y (now slots) (now picture) ⌝ }
     ensures { λ r. ⌜ Folds false 8 (now (code .entry)) grid [] (alongX 8 (parent .x) y 0 1 (parent .xend))
         (now (picture .entry)) (now (picture .exit)) r ⌝ }
     ensures { λ _. ⌜ length (now (slots .exit)) ≡ slotLimit ⌝ }
@@ -136,12 +124,7 @@ pub fn sample_rows(
     slots: &mut [[i32; 8]; SLOT_LIMIT],
     picture: &mut [u8],
 ) -> u64
-    requires { ⌜ Sound (now code) ⌝ }
-    requires { ⌜ Ready false grid (now picture) ⌝ }
-    requires { ⌜ CellOk 1 grid parent ⌝ }
-    requires { ⌜ (parent .side ≡ 8) × (parent .x % 8 ≡ 0) ⌝ }
-    requires { ⌜ length (now slots) ≡ slotLimit ⌝ }
-    requires { ⌜ Blank (grid .width) (parent .x) (parent .x + 8) (parent .y) (parent .y + 8) (now picture) ⌝ }
+    requires { ⌜ ForRows (now code) grid parent (now slots) (now picture) ⌝ }
     ensures { λ r. ⌜ Folds false 64 (now (code .entry)) grid []
         (alongY 8 8 (parent .x) (parent .y) 0 1 (parent .xend) (parent .yend))
         (now (picture .entry)) (now (picture .exit)) r ⌝ }

@@ -18,7 +18,7 @@ use Rattle.formula.specs.declared.parts.Stop.the-variants as stop
 use Rattle.formula.specs.declared.parts.Read.{Read}
 use Rattle.formula.specs.declared.parts.Read.the-variants as read
 use Rattle.formula.specs.Cursors.{sheetOn}
-use Rattle.formula.specs.Heads.{Follows}
+use Rattle.formula.specs.Heads.{NoSpace, Follows}
 
 -- The clauses of an item of one clause, of an operation on the slot, and of one on it and the next slot.
 abbrev pub leafClause : ℕ → ℕ → ℕ → Clause
@@ -36,6 +36,11 @@ pub record CanWrite (zs : List ℤ) (c : Cursor) (code high : ℕ) : Type 0 wher
   pub slot : high ≤ c .count
   pub few : c .count < 9223372036854775808
 
+-- A clause with a constant.
+pub record CanLeaf (zs : List ℤ) (c : Cursor) (code high value : ℕ) : Type 0 where
+  pub write : CanWrite zs c code high
+  pub small : value < 2147483648
+
 -- No more clauses are written than bytes are read, and no more slots wait than clauses are written, inside at most 32
 -- brackets.
 pub record Room (text : List ℕ) (zs : List ℤ) (c : Cursor) (slot depth : ℕ) : Type 0 where
@@ -44,6 +49,16 @@ pub record Room (text : List ℕ) (zs : List ℤ) (c : Cursor) (slot depth : ℕ
   pub waits : slot ≤ c .count
   pub nest : depth ≤ 32
   pub list : length zs ≡ 5120
+
+-- At the front of an item, where no space stands.
+pub record ItemRoom (text : List ℕ) (zs : List ℤ) (c : Cursor) (slot depth : ℕ) : Type 0 where
+  pub room : Room text zs c slot depth
+  pub front : NoSpace text (c .at)
+
+-- Inside a bracket, with an opcode or an ending byte that is at most n.
+pub record BracketRoom (n : ℕ) (text : List ℕ) (zs : List ℤ) (c : Cursor) (slot depth value : ℕ) : Type 0 where
+  pub room : Room text zs c slot depth
+  pub most : value ≤ n
 
 abbrev pub movedTo : Cursor → ℕ → Cursor
 movedTo c n = record { at = n; count = c .count; slots = c .slots }

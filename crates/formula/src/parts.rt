@@ -9,12 +9,12 @@ use crate::sheet::Cursor;
 use crate::sheet::emit;
 use crate::text::peek;
 use crate::text::skip;
-ghost use Prim.Native.Nat.{_+_, _≤_, _<_};
+ghost use Prim.Native.Nat.{_+_};
 ghost use Rattle.formula_rules.specs.FormulaCalls.{SumRead, ProductRead, SignedRead, ItemRead};
 ghost use Rattle.formula_rules.specs.FormulaCalls.{SumStops, ProductStops, SignedStops, ItemStops};
 ghost use Rattle.formula.specs.Cursors.{Emitted};
-ghost use Rattle.formula.specs.Heads.{NoSpace};
-ghost use Rattle.formula.specs.Parts.{leafClause, unaryClause, binaryClause, CanWrite, Room, movedTo, Reads};
+ghost use Rattle.formula.specs.Parts.{leafClause, unaryClause, binaryClause, CanWrite, CanLeaf, movedTo, Reads};
+ghost use Rattle.formula.specs.Parts.{Room, ItemRoom, BracketRoom};
 ghost use Rattle.formula.specs.Parts.{EndedBy, NotEnded, OneSays, TwoSays};
 
 // "18 when a bracket, a function's too, opens inside 32 others."
@@ -76,7 +76,7 @@ fn join(list: &mut [i32], c: Cursor, opcode: u32, slot: usize) -> Cursor
 }
 
 fn leaf(list: &mut [i32], c: Cursor, opcode: u32, slot: usize, constant: u32) -> Cursor
-    requires { ⌜ CanWrite (now list) c opcode slot × (constant < 2147483648) ⌝ }
+    requires { ⌜ CanLeaf (now list) c opcode slot constant ⌝ }
     ensures { λ r. ⌜ Emitted (now (list .entry)) c (leafClause opcode slot constant) (now (list .exit)) r ⌝ }
 {
     emit(
@@ -168,7 +168,7 @@ fn signed(text: &[u8], list: &mut [i32], c: Cursor, slot: usize, depth: u32) -> 
 }
 
 fn item(text: &[u8], list: &mut [i32], c: Cursor, slot: usize, depth: u32) -> Read
-    requires { ⌜ Room (now text) (now list) c slot depth × NoSpace (now text) (c .at) ⌝ }
+    requires { ⌜ ItemRoom (now text) (now list) c slot depth ⌝ }
     ensures { λ r. ⌜ Reads (ItemRead (now (text .entry)) (c .at) depth)
         (ItemStops (now (text .entry)) (c .at) depth)
         (now (text .entry)) c slot (now (list .entry)) (now (list .exit)) r ⌝ }
@@ -210,7 +210,7 @@ fn item(text: &[u8], list: &mut [i32], c: Cursor, slot: usize, depth: u32) -> Re
 
 // What a bracket of one sum holds, and the operation that follows it, if one does.
 fn one(text: &[u8], list: &mut [i32], c: Cursor, slot: usize, depth: u32, opcode: u32) -> Read
-    requires { ⌜ Room (now text) (now list) c slot depth × (opcode ≤ 8) ⌝ }
+    requires { ⌜ BracketRoom 8 (now text) (now list) c slot depth opcode ⌝ }
     ensures { λ r. ⌜ OneSays (now (text .entry)) c slot depth opcode (now (list .entry)) (now (list .exit)) r ⌝ }
 {
     match enclosed(text, list, c, slot, depth, CLOSE) {
@@ -226,7 +226,7 @@ fn one(text: &[u8], list: &mut [i32], c: Cursor, slot: usize, depth: u32, opcode
 
 // The two sums of a minimum or a maximum.
 fn two(text: &[u8], list: &mut [i32], c: Cursor, slot: usize, depth: u32, opcode: u32) -> Read
-    requires { ⌜ Room (now text) (now list) c slot depth × (opcode ≤ 14) ⌝ }
+    requires { ⌜ BracketRoom 14 (now text) (now list) c slot depth opcode ⌝ }
     ensures { λ r. ⌜ TwoSays (now (text .entry)) c slot depth opcode (now (list .entry)) (now (list .exit)) r ⌝ }
 {
     match enclosed(text, list, c, slot, depth, COMMA) {
@@ -240,7 +240,7 @@ fn two(text: &[u8], list: &mut [i32], c: Cursor, slot: usize, depth: u32, opcode
 
 // A sum, and the byte that ends it.
 fn enclosed(text: &[u8], list: &mut [i32], c: Cursor, slot: usize, depth: u32, end: u32) -> Read
-    requires { ⌜ Room (now text) (now list) c slot depth × (end < 256) ⌝ }
+    requires { ⌜ BracketRoom 255 (now text) (now list) c slot depth end ⌝ }
     ensures { λ r. ⌜ Reads (EndedBy (now (text .entry)) (c .at) depth end)
         (NotEnded (now (text .entry)) (c .at) depth end)
         (now (text .entry)) (movedTo c (c .at + 1)) slot (now (list .entry)) (now (list .exit)) r ⌝ }

@@ -27,9 +27,17 @@ use Rattle.walk.specs.Cells.{Ready, InGrid}
 use Rattle.walk.specs.Walks.{Sound, Visits}
 use Rattle.walk.proofs.Draws.{hidden-same, draws-count, draws-hidden, draws-sample-full, draws-sample-empty}
 use Rattle.walk.proofs.Filling.{hidden-sample, fill-sample, raises-same}
-use Rattle.walk.proofs.Children.{part-one}
+use Rattle.walk.proofs.Along.{part-one}
 use Rattle.walk.proofs.CellLaws.{small, kind}
+use Rattle.walk.proofs.Places.{ready-again}
+use Rattle.walk.specs.declared.cell.Cell.{Cell}
+use Rattle.solid_samples.specs.Samples.{ForSamples}
 use Rattle.solid_samples.proofs.CellRows.{index-most}
+
+-- What a call in a loop over samples asks again.
+pub samples-again : {ws : List ℕ} {grid : Grid} {c : Cell} {b₀ b : List ℕ} → ForSamples ws grid c b₀
+    → length b ≡ length b₀ → ForSamples ws grid c b
+samples-again p e = record { sound = p .sound; ready = ready-again (p .ready) e; cell = p .cell; side = p .side }
 
 -- A sample's coordinates, handed over as words and taken back.
 pub at-words : {f s : ℤ} (i : ℕ) → SFits w32 f → SFits w32 s → at (read w32 f) (read w32 s) i ≡ at f s i

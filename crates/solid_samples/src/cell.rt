@@ -5,12 +5,12 @@ use picture::heights::rows_high;
 use walk::cell::Cell;
 ghost use mathlib.Core.Bool.{true};
 ghost use Rattle.picture.specs.Shapes.{gridIn};
-ghost use Rattle.walk.specs.Cells.{Ready, CellOk, regionIn};
+ghost use Rattle.walk.specs.Cells.{regionIn};
 ghost use Rattle.walk.specs.Draws.{Fills, Hidden, Same};
+ghost use Rattle.solid_samples.specs.Samples.{ForRows};
 
 pub fn is_hidden(grid: Grid, c: Cell, picture: &[u16]) -> bool
-    requires { ⌜ Ready true grid (now picture) ⌝ }
-    requires { ⌜ CellOk (grid .depth) grid c ⌝ }
+    requires { ⌜ ForRows grid c (now picture) ⌝ }
     ensures { λ r. ⌜ Hidden Same (gridIn grid true) (regionIn c) (now (picture .entry)) r ⌝ }
 {
     let rows = (c.yend - c.y) as usize;
@@ -21,8 +21,7 @@ pub fn is_hidden(grid: Grid, c: Cell, picture: &[u16]) -> bool
 }
 
 pub fn fill(grid: Grid, c: Cell, picture: &mut [u16])
-    requires { ⌜ Ready true grid (now picture) ⌝ }
-    requires { ⌜ CellOk (grid .depth) grid c ⌝ }
+    requires { ⌜ ForRows grid c (now picture) ⌝ }
     ensures { λ _. ⌜ Fills Same (gridIn grid true) (regionIn c) (now (picture .entry)) (now (picture .exit)) ⌝ }
 {
     let rows = (c.yend - c.y) as usize;

@@ -5,14 +5,12 @@ use picture::grid::Grid;
 use picture::grid::sample;
 use tape::SLOT_LIMIT;
 use walk::cell::Cell;
-ghost use mathlib.Core.Path.{_≡_};
 ghost use mathlib.Core.Bool.{true};
 ghost use mathlib.Core.List.{[]};
-ghost use Prim.Native.Nat.{_*_, _<_};
 ghost use Rattle.rules.specs.Drawings.{region, alongX, alongY, alongZ};
 ghost use Rattle.code.specs.Runs.{Lent};
-ghost use Rattle.walk.specs.Cells.{Ready, InGrid, CellOk};
-ghost use Rattle.walk.specs.Walks.{Sound, Visits, Folds};
+ghost use Rattle.walk.specs.Walks.{Visits, Folds};
+ghost use Rattle.solid_samples.specs.Samples.{ForSample, ForSamples, ForLayer, ForRow};
 
 fn visit_sample(
     code: &[u64],
@@ -23,10 +21,7 @@ fn visit_sample(
     slots: &mut [i32; SLOT_LIMIT],
     picture: &mut [u16],
 ) -> u64
-    requires { ⌜ Sound (now code) ⌝ }
-    requires { ⌜ Ready true grid (now picture) ⌝ }
-    requires { ⌜ InGrid (grid .depth) grid x y z ⌝ }
-    requires { ⌜ Lent (now slots) ⌝ }
+    requires { ⌜ ForSample (now code) grid x y z (now slots) (now picture) ⌝ }
     ensures { λ r. ⌜ Visits true 1 (now (code .entry)) grid [] (region x y z 1)
         (now (picture .entry)) (now (picture .exit)) r ⌝ }
     ensures { λ _. ⌜ Lent (now (slots .exit)) ⌝ }
@@ -60,11 +55,7 @@ fn sample_row(
     slots: &mut [i32; SLOT_LIMIT],
     picture: &mut [u16],
 ) -> u64
-    requires { ⌜ Sound (now code) ⌝ }
-    requires { ⌜ Ready true grid (now picture) ⌝ }
-    requires { ⌜ CellOk (grid .depth) grid parent ⌝ }
-    requires { ⌜ (parent .side ≡ 4) × (y < parent .yend) × (z < parent .zend) ⌝ }
-    requires { ⌜ Lent (now slots) ⌝ }
+    requires { ⌜ ForRow (now code) grid parent y z (now slots) (now picture) ⌝ }
     ensures { λ r. ⌜ Folds true 4 (now (code .entry)) grid [] (alongX 4 (parent .x) y z 1 (parent .xend))
         (now (picture .entry)) (now (picture .exit)) r ⌝ }
     ensures { λ _. ⌜ Lent (now (slots .exit)) ⌝ }
@@ -86,11 +77,7 @@ fn sample_rows(
     slots: &mut [i32; SLOT_LIMIT],
     picture: &mut [u16],
 ) -> u64
-    requires { ⌜ Sound (now code) ⌝ }
-    requires { ⌜ Ready true grid (now picture) ⌝ }
-    requires { ⌜ CellOk (grid .depth) grid parent ⌝ }
-    requires { ⌜ (parent .side ≡ 4) × (z < parent .zend) ⌝ }
-    requires { ⌜ Lent (now slots) ⌝ }
+    requires { ⌜ ForLayer (now code) grid parent z (now slots) (now picture) ⌝ }
     ensures { λ r. ⌜ Folds true 16 (now (code .entry)) grid []
         (alongY 4 4 (parent .x) (parent .y) z 1 (parent .xend) (parent .yend))
         (now (picture .entry)) (now (picture .exit)) r ⌝ }
@@ -107,10 +94,7 @@ fn sample_rows(
 
 // The slots are made once for all samples of the region.
 pub fn sample_layers(code: &[u64], grid: Grid, parent: Cell, picture: &mut [u16]) -> u64
-    requires { ⌜ Sound (now code) ⌝ }
-    requires { ⌜ Ready true grid (now picture) ⌝ }
-    requires { ⌜ CellOk (grid .depth) grid parent ⌝ }
-    requires { ⌜ parent .side ≡ 4 ⌝ }
+    requires { ⌜ ForSamples (now code) grid parent (now picture) ⌝ }
     ensures { λ r. ⌜ Folds true 64 (now (code .entry)) grid []
         (alongZ 4 4 (parent .x) (parent .y) (parent .z) 1 (parent .xend) (parent .yend) (parent .zend))
         (now (picture .entry)) (now (picture .exit)) r ⌝ }

@@ -5,27 +5,26 @@ use mathlib.Core.List.{List}
 use Prim.Native.Nat.{ℕ, _*_}
 use native.Mathlib.Omega.{arith}
 use lib.ListN.{replicate}
-use Rattle.rules.specs.Drawings.{Region, children, whole, alongZ, gridFault}
+use Rattle.rules.specs.Drawings.{Region, children, whole, gridFault}
 use Rattle.rules.specs.Pictures.{picture}
 use Rattle.picture.specs.Shapes.{gridIn}
 use Rattle.picture.specs.declared.grid.Grid.{Grid}
 use Rattle.walk.specs.Cells.{CellOf}
 use Rattle.walk.specs.Walks.{Folds, Walked}
 use Rattle.walk.specs.declared.cell.Cell.{Cell}
-use Rattle.walk.proofs.CellLaws.{cell-layers}
+use Rattle.walk.specs.Children.{childrenIn}
+use Rattle.walk.proofs.ChildLaws.{children-in}
 use Rattle.walk.proofs.WalkLaws.{walk-shown}
 use Rattle.solid_blocks.specs.Sides.{below64}
 
 module _ {ws : List ℕ} {grid : Grid} {cell : Cell} (k : CellOf (grid .depth) grid whole cell)
     (e : gridFault true (gridIn grid true) ≡ 0) {most c : ℕ} {b b′ : List ℕ}
-    (f : Folds true most ws grid below64
-    (alongZ 8 8 (cell .x) (cell .y) (cell .z) 64 (cell .xend) (cell .yend) (cell .zend)) b b′ c)
+    (f : Folds true most ws grid below64 (childrenIn cell 64) b b′ c)
     (h : b ≡ replicate (grid .width * grid .height) 0) where
-  tiles : children (gridIn grid true) whole 64
-      ≡ alongZ 8 8 (cell .x) (cell .y) (cell .z) 64 (cell .xend) (cell .yend) (cell .zend)
+  tiles : children (gridIn grid true) whole 64 ≡ childrenIn cell 64
   tiles =
       ap (λ r. children (gridIn grid true) r 64) (sym (k .same))
-      ∙ cell-layers grid cell 64 8 (omega arith) (omega arith) (ap (λ (q : Region). q .long) (k .same)) (k .ok) e
+      ∙ children-in true grid cell 64 8 (omega arith) (omega arith) (ap (λ (q : Region). q .long) (k .same)) e (k .ok)
 
   pub folds-walked : Walked true ws grid b′ c
   unfolding picture

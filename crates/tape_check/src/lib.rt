@@ -19,9 +19,9 @@ use tape::list::fields_of;
 ghost use mathlib.Core.Path.{_≡_};
 ghost use Prim.Native.Nat.{_+_, _*_, _≤_};
 ghost use lib.ListN.{drop};
-ghost use Rattle.rules.specs.Tapes.{slotLimit, clauseLimit, countsOk, headCounts, rawsOf, readClauses, readList};
+ghost use Rattle.rules.specs.Tapes.{countsOk, headCounts, rawsOf, readClauses, readList};
 ghost use Rattle.rules.specs.Tapes.{headOk, rawsFrom, readTape};
-ghost use Rattle.tape_check.specs.Checks.{Answers};
+ghost use Rattle.tape_check.specs.Checks.{Answers, Counted};
 
 // What a check answers: 0 and the counts of slots and clauses, or the number of the refusal and its clause.
 pub struct Checked {
@@ -49,7 +49,7 @@ fn counts_ok(slots: u32, clauses: usize) -> bool
 }
 
 fn list_clauses(slots: u32, list: &[i32], count: u32) -> Checked
-    requires { do ⌜ (slots ≤ slotLimit) × ((count ≤ clauseLimit) × ((← ⟦list.len()⟧) ≡ 5 * count)) ⌝ }
+    requires { do ⌜ Counted slots count (← ⟦list.len()⟧) (5 * count) ⌝ }
     ensures { λ r. ⌜ Answers r (readClauses slots (rawsOf (now (list .entry)))) ⌝ }
 {
     let mut written = empty();
@@ -93,7 +93,7 @@ fn head_ok(s: &[u8]) -> bool
 }
 
 fn tape_clauses(slots: u32, tape: &[u8], count: u32) -> Checked
-    requires { do ⌜ (slots ≤ slotLimit) × ((count ≤ clauseLimit) × ((← ⟦tape.len()⟧) ≡ 8 + 10 * count)) ⌝ }
+    requires { do ⌜ Counted slots count (← ⟦tape.len()⟧) (8 + 10 * count) ⌝ }
     ensures { λ r. ⌜ Answers r (readClauses slots (rawsFrom count (drop 8 (now (tape .entry))))) ⌝ }
 {
     let mut written = empty();

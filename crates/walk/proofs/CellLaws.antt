@@ -8,16 +8,16 @@ use lib.IntN.{ℤ}
 use mir.Syntax.{w32}
 use mir.Val.{SFits}
 use mir.Facts.{toZ-ofZ}
-use Rattle.rules.specs.Values.{pick, Range, range, Box}
+use Rattle.rules.specs.Values.{Range, range, Box}
 use Rattle.rules.specs.Drawings.{lesser, solid, at, pastZ, boxOf, gridFault, children, alongY, alongZ}
 use Rattle.rules.proofs.Words.{read}
-use Rattle.code.specs.Runs.{EndsOk, BoxOk}
+use Rattle.code.specs.Runs.{EndsOk}
 use Rattle.picture.specs.Shapes.{gridIn}
 use Rattle.picture.specs.declared.grid.Grid.{Grid}
 use Rattle.picture.proofs.Grids.{accepted}
 use Rattle.walk.specs.Cells.{layersIn, Ready, Small, InGrid, Ends, CellOk, regionIn, SpanIn, spanOf, CellBox}
 use Rattle.walk.specs.declared.cell.Cell.{Cell}
-use Rattle.walk.proofs.Children.{part, children-rows, children-layers}
+use Rattle.walk.proofs.Along.{part, children-rows, children-layers}
 
 -- What an accepted grid has: sizes within the limit, a first sample, and its kind.
 module _ (isSolid : Bool) (grid : Grid) (e : gridFault isSolid (gridIn grid isSolid) ≡ 0) where

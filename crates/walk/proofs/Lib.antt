@@ -3,11 +3,17 @@
 -- or `AtLayer` (Loops): it begins, holds again after a turn and is done by one law each. A level cites the law of its
 -- case (LookLaws), and the whole drawing `walk-shown` (WalkLaws).
 pub mod Draws
-pub mod Children
+pub mod Along
 pub mod Filling
 pub mod Signs
 pub mod CellLaws
 pub mod LookLaws
+pub mod JudgeLaws
 pub mod Places
 pub mod Loops
 pub mod WalkLaws
+pub mod Numbered
+pub mod ChildLaws
+pub mod ChildLoop
+pub mod Clear
+pub mod OpenLaws

@@ -13,24 +13,24 @@ use Rattle.rules.specs.Drawings.{Region, boxOf, fold, visit, children, alongY, 
 use Rattle.rules.specs.Accepted.{Accepted}
 use Rattle.rules.proofs.Short.{short-length}
 use Rattle.rules.proofs.ShortAccepted.{short-accepted}
+use Rattle.fixed.specs.Shapes.{rangeIn}
 use Rattle.code.specs.Words.{tapeIn, Runnable}
-use Rattle.code.specs.Runs.{Fit, Bounded}
+use Rattle.code.specs.Runs.{Fit, BoxOk}
+use Rattle.shortening.specs.Kept.{Kept}
 use Rattle.code.proofs.WordTapes.{words-run, words-runnable, length-clauses}
-use Rattle.shortening.specs.Kept.{Chosen, Cut}
-use Rattle.shortening.proofs.ChoiceLaws.{choices-chosen}
-use Rattle.shortening.proofs.KeptLaws.{cut-kept}
-use Rattle.shortening.proofs.CutLaws.{short-tape}
 use Rattle.picture.specs.Shapes.{gridIn}
 use Rattle.picture.specs.declared.grid.Grid.{Grid}
-use Rattle.walk.specs.Cells.{CellOf, regionIn, CellBox}
+use Rattle.walk.specs.Cells.{ForBox, CellOf, regionIn, CellBox}
 use Rattle.walk.specs.Draws.{Draws, Fills, Hidden}
-use Rattle.walk.specs.Verdicts.{IsFull, IsEmpty, IsMixed, Judged}
-use Rattle.walk.specs.Walks.{Sound, Level, Shown, Visits, Folds, Finished, Opened, Looked}
+use Rattle.walk.specs.Verdicts.{IsMixed, CutOver}
+use Rattle.walk.specs.Judges.{ForJudge, OutcomeOf, IsJudged}
+use Rattle.walk.specs.Walks.{Sound, Level, Shown, Visits, Folds, ForLook, Finished, Opened, Looked}
 use Rattle.walk.specs.declared.cell.Cell.{Cell}
 use Rattle.walk.specs.declared.look.Seen.{Seen}
 use Rattle.walk.specs.declared.look.Seen.the-variants.{Done, Open}
-use Rattle.walk.specs.declared.verdict.Verdict.{Verdict}
-use Rattle.walk.specs.declared.verdict.Verdict.the-variants.{Full, Empty, Mixed}
+use Rattle.walk.specs.declared.judge.Judgement.{Judgement}
+use Rattle.walk.specs.declared.judge.Outcome.{Outcome}
+use Rattle.walk.specs.declared.judge.Outcome.the-variants.{Full, Empty, Cut}
 use Rattle.walk.proofs.CellLaws.{cell-layers, cell-rows}
 use Rattle.walk.proofs.Draws.{draws-count, draws-hidden, draws-full, draws-empty, draws-cut}
 
@@ -41,88 +41,87 @@ fit-of {n} {ws} a = record { slots = a .slots; all = words-run n ws a }
 pub sound-runs : {ws : List ℕ} → Sound ws → Runnable ws
 sound-runs {ws} s = words-runnable (s .slots) ws (s .accepted)
 
--- The choices of a run over ranges fall on minima and maxima alone.
-pub run-chosen : {ws hs hs′ : List ℕ} {b : Box} {x : Range} → Sound ws → Bounded ws b hs hs′ x → Chosen ws hs′
-run-chosen {ws} {hs} {hs′} {b} s v = choices-chosen (s .slots) ws hs′ b (v .choices (s .slots) (fit-of (s .accepted)))
-
 pub sound-length : {ws : List ℕ} → Sound ws → length ws ≤ clauseLimit
 sound-length {ws} s = omega (arith, s .accepted .clauses, length-clauses ws)
 
--- What the verdict says, once it is known which one it is.
-module _ (x : Range) {v : Verdict} (j : Judged x v) where
-  pub full-of : v ≡ Full → IsFull x
-  full-of e = subst (λ u. Judged x u) e j
+-- What a look hands on: its cell, whose box is made, and with that box the judge.
+module _ {isSolid : Bool} {whole ws : List ℕ} {grid : Grid} {c : Cell} {b work next : List ℕ} {base : ℕ}
+    (p : ForLook isSolid whole ws grid c b work base next) where
+  pub look-cell : ForBox isSolid grid c
+  look-cell = record { fault = p .ready .fault; ok = p .cell }
 
-  pub empty-of : v ≡ Empty → IsEmpty x
-  empty-of e = subst (λ u. Judged x u) e j
-
-  pub mixed-of : v ≡ Mixed → IsMixed x
-  mixed-of e = subst (λ u. Judged x u) e j
+  pub look-judge : {box : Box} → BoxOk box → ForJudge whole ws box work base next
+  look-judge k = record { level = p .level; box = k; marks = p .marks; words = p .words }
 
 module _ (isSolid : Bool) {ws : List ℕ} {grid : Grid} {r : Region} {b : List ℕ} where
   pub done-hidden : Hidden (Shown isSolid grid) (gridIn grid isSolid) r b true → Finished isSolid ws grid r b b 0
   done-hidden e = record { draws = λ n ns m a. draws-hidden e (n ∷ ns) (tapeIn m ws); bound = omega arith }
 
--- A region that is seen, with the range x over its box.
-module _ (isSolid : Bool) {ws : List ℕ} {grid : Grid} {c : Cell} {b hs hs′ : List ℕ} {box : Box} {x : Range}
-    (k : CellBox isSolid grid c box) (e : Hidden (Shown isSolid grid) (gridIn grid isSolid) (regionIn c) b false)
-    (v : Bounded ws box hs hs′ x) where
-  over-region : Bounded ws (boxOf (gridIn grid isSolid) (regionIn c)) hs hs′ x
+-- A region that is seen, and judged over its box.
+module _ (isSolid : Bool) {whole ws : List ℕ} {grid : Grid} {c : Cell} {b work next : List ℕ} {box : Box} {base : ℕ}
+    {j : Judgement} (k : CellBox isSolid grid c box)
+    (e : Hidden (Shown isSolid grid) (gridIn grid isSolid) (regionIn c) b false)
+    (v : IsJudged whole ws box base work next j) where
+  over-region : IsJudged whole ws (boxOf (gridIn grid isSolid) (regionIn c)) base work next j
   over-region = rw (k .same) at v
 
-  range-of : (m : ℕ) → Fit m ws → x ≡ rangeOver (tapeIn m ws) (boxOf (gridIn grid isSolid) (regionIn c))
+  range-of : (m : ℕ) → Fit m ws
+      → rangeIn (j .range) ≡ rangeOver (tapeIn m ws) (boxOf (gridIn grid isSolid) (regionIn c))
   range-of m a = over-region .range m a
 
-  high-of : {t : Bool} (m : ℕ) → Accepted (tapeIn m ws) → isNeg (x .high) ≡ t
+  outcome-of : {o : Outcome} → j .outcome ≡ o
+      → OutcomeOf whole ws (boxOf (gridIn grid isSolid) (regionIn c)) (rangeIn (j .range)) base work next o
+  outcome-of h =
+      subst
+      (λ o. OutcomeOf whole ws (boxOf (gridIn grid isSolid) (regionIn c)) (rangeIn (j .range)) base work next o)
+      h (over-region .outcome)
+
+  high-of : {t : Bool} (m : ℕ) → Accepted (tapeIn m ws) → isNeg (j .range .high) ≡ t
       → isNeg (rangeOver (tapeIn m ws) (boxOf (gridIn grid isSolid) (regionIn c)) .high) ≡ t
   high-of m a h = ap (λ (y : Range). isNeg (y .high)) (sym (range-of m (fit-of a))) ∙ h
 
-  low-of : {t : Bool} (m : ℕ) → Accepted (tapeIn m ws) → isNeg (x .low) ≡ t
+  low-of : {t : Bool} (m : ℕ) → Accepted (tapeIn m ws) → isNeg (j .range .low) ≡ t
       → isNeg (rangeOver (tapeIn m ws) (boxOf (gridIn grid isSolid) (regionIn c)) .low) ≡ t
   low-of m a h = ap (λ (y : Range). isNeg (y .low)) (sym (range-of m (fit-of a))) ∙ h
 
-  pub done-full : {b′ : List ℕ} → IsFull x → Fills (Shown isSolid grid) (gridIn grid isSolid) (regionIn c) b b′
+  pub done-full : {b′ : List ℕ} → j .outcome ≡ Full
+      → Fills (Shown isSolid grid) (gridIn grid isSolid) (regionIn c) b b′
       → Finished isSolid ws grid (regionIn c) b b′ (length ws)
-  done-full j u =
-      record {
-        draws = λ n ns m a. draws-count (length-clauses ws) (draws-full e (tapeIn m ws) n ns (high-of m a (j .high)) u);
-        bound = omega arith;
-      }
-
-  pub done-empty : IsEmpty x → Finished isSolid ws grid (regionIn c) b b (length ws)
-  done-empty j =
+  done-full h u =
       record {
         draws = λ n ns m a.
             draws-count (length-clauses ws)
-            (draws-empty e (tapeIn m ws) n ns (high-of m a (j .high)) (low-of m a (j .low)));
+            (draws-full e (tapeIn m ws) n ns (high-of m a (outcome-of h .high)) u);
         bound = omega arith;
       }
 
-  pub opened : {whole qs hs″ next ps : List ℕ} {base start : ℕ} → IsMixed x → Cut whole ws qs hs′ base hs″ next ps start
-      → Opened isSolid whole ws qs grid (regionIn c) b b hs″ next ps start
-  opened j s =
+  pub done-empty : j .outcome ≡ Empty → Finished isSolid ws grid (regionIn c) b b (length ws)
+  done-empty h =
+      record {
+        draws = λ n ns m a.
+            draws-count (length-clauses ws)
+            (draws-empty e (tapeIn m ws) n ns (high-of m a (outcome-of h .high)) (low-of m a (outcome-of h .low)));
+        bound = omega arith;
+      }
+
+  pub opened : {start : ℕ} → j .outcome ≡ Cut start
+      → Opened isSolid whole ws grid (regionIn c) b b base work next start
+  opened h =
       record {
         same = refl;
         seen = e;
-        cut = record {
-          range = λ n a. subst IsMixed (range-of n a) j;
-          start = s .within;
-          short = λ n a. short-tape n _ (over-region .choices n a) s;
-        };
-        base = _;
-        choices = hs′;
-        by-cut = s;
+        mixed = λ n a. subst IsMixed (range-of n a) (outcome-of h .mixed);
+        cut = outcome-of h .cut;
       }
 
 -- What the look says, once it is known whether the region is done.
-module _ (isSolid : Bool) (whole ws qs : List ℕ) (grid : Grid) (r : Region) (b b′ work next ps : List ℕ)
-    {v : Seen}
-    (j : Looked isSolid whole ws qs grid r b b′ work next ps v) where
+module _ (isSolid : Bool) (whole ws : List ℕ) (grid : Grid) (r : Region) (b b′ : List ℕ) (base : ℕ)
+    (work next : List ℕ) {v : Seen} (j : Looked isSolid whole ws grid r b b′ base work next v) where
   pub done-of : {c : ℕ} → v ≡ Done c → Finished isSolid ws grid r b b′ c
-  done-of e = subst (λ u. Looked isSolid whole ws qs grid r b b′ work next ps u) e j
+  done-of e = subst (λ u. Looked isSolid whole ws grid r b b′ base work next u) e j
 
-  pub open-of : {m : ℕ} → v ≡ Open m → Opened isSolid whole ws qs grid r b b′ work next ps m
-  open-of e = subst (λ u. Looked isSolid whole ws qs grid r b b′ work next ps u) e j
+  pub open-of : {m : ℕ} → v ≡ Open m → Opened isSolid whole ws grid r b b′ base work next m
+  open-of e = subst (λ u. Looked isSolid whole ws grid r b b′ base work next u) e j
 
 -- Done without its children: at most one run is counted.
 pub done-visits : {isSolid : Bool} {ws : List ℕ} {grid : Grid} {q r : Region} {b b′ : List ℕ} {c : ℕ} (k n : ℕ)
@@ -136,34 +135,36 @@ done-visits {ws = ws} k n ns e h f =
 pub lent-words : (start : ℕ) (next : List ℕ) → take (length next - start) (drop start next) ≡ drop start next
 lent-words start next = take-all (length next - start) (drop start next) (rw length-drop (omega arith))
 
--- After a cut: the short words are sound and no more than the region's, and visiting the children with them is the rest
--- of the visit. If at most k runs are counted of the children, at most k + 1 are of the region.
-module _ {isSolid : Bool} {whole ws qs : List ℕ} {grid : Grid} {q : Region} {b b₁ work next ps : List ℕ}
-    {start : ℕ} (s : Sound ws)
-    (o : Opened isSolid whole ws qs grid q b b₁ work next ps start) where
-  short-again : (n : ℕ) → Accepted (tapeIn n ws) → Accepted (tapeIn n (drop start next))
-  short-again n a =
-      subst Accepted (sym (o .cut .short n (fit-of a))) (short-accepted (tapeIn n ws) a (boxOf (gridIn grid isSolid) q))
+-- After a cut over any box: what the words had as an accepted tape and as kept of the whole tape, the short words have.
+module _ {whole ws work next : List ℕ} {b : Box} {base start : ℕ} (k : CutOver whole ws b base work next start) where
+  pub short-again : (n : ℕ) → Accepted (tapeIn n ws) → Accepted (tapeIn n (drop start next))
+  short-again n a = subst Accepted (sym (k .short n (fit-of a))) (short-accepted (tapeIn n ws) a b)
 
-  pub open-sound : Sound (take (length next - start) (drop start next))
-  open-sound =
-      rw (lent-words start next) (record { slots = s .slots; accepted = short-again (s .slots) (s .accepted) })
+  pub short-kept : Level whole ws → Kept whole (drop start next)
+  short-kept l =
+      let s = l .sound in
+      record { marks = _; kept = k .kept (s .slots) (fit-of (s .accepted)) (l .kept .marks) (l .kept .kept) }
 
-  pub open-level : Level whole (take (length next - start) (drop start next)) (take (length ps - start) (drop start ps))
-  open-level = record { sound = open-sound; kept = rw (lent-words start next, lent-words start ps) (cut-kept (o .by-cut)) }
-
-  short-fewer : length (drop start next) ≤ length ws
-  short-fewer =
+  pub short-fewer : Sound ws → length (drop start next) ≤ length ws
+  short-fewer s =
       omega (
         arith,
         length-clauses (drop start next),
         length-clauses ws,
-        ap (λ t. length (t .clauses)) (o .cut .short (s .slots) (fit-of (s .accepted))),
-        short-length (tapeIn (s .slots) ws) (boxOf (gridIn grid isSolid) q),
+        ap (λ t. length (t .clauses)) (k .short (s .slots) (fit-of (s .accepted))),
+        short-length (tapeIn (s .slots) ws) b,
       )
 
+-- After a cut: the short words are sound and no more than the region's, and visiting the children with them is the rest
+-- of the visit. If at most k runs are counted of the children, at most k + 1 are of the region.
+module _ {isSolid : Bool} {whole ws : List ℕ} {grid : Grid} {q : Region} {b b₁ work next : List ℕ}
+    {base start : ℕ} (s : Sound ws) (o : Opened isSolid whole ws grid q b b₁ base work next start) where
+  pub open-sound : Sound (take (length next - start) (drop start next))
+  open-sound =
+      rw (lent-words start next) (record { slots = s .slots; accepted = short-again (o .cut) (s .slots) (s .accepted) })
+
   pub open-fewer : length (take (length next - start) (drop start next)) ≤ length ws
-  open-fewer = rw (lent-words start next) short-fewer
+  open-fewer = rw (lent-words start next) (short-fewer (o .cut) s)
 
   cut-visits : (n : ℕ) (ns : List ℕ) (k : ℕ) {c : ℕ} {qs : List Region} {b′ : List ℕ}
       → children (gridIn grid isSolid) q n ≡ qs
@@ -172,14 +173,14 @@ module _ {isSolid : Bool} {whole ws qs : List ℕ} {grid : Grid} {q : Region} {b
   cut-visits n ns k {c} {qs} {b′} h f =
       record {
         draws = λ m a.
-            (let x = o .cut .range m (fit-of a) in
+            (let x = o .mixed m (fit-of a) in
             let g = gridIn grid isSolid in
             let short = tapeIn m (drop start next) in
             let u : Draws (Shown isSolid grid) (fold (λ p y. visit ns short g p y) (children g q n)) b b′ c =
-            rw (h, ← o .same) (f .draws m (short-again m a)) in
+            rw (h, ← o .same) (f .draws m (short-again (o .cut) m a)) in
             draws-count (omega (arith, length-clauses ws))
             (draws-cut (o .seen) (tapeIn m ws) n ns (x .high) (x .low) (rw (o .cut .short m (fit-of a)) at u)));
-        bound = omega (arith, f .bound, mul-le-mul-left k short-fewer);
+        bound = omega (arith, f .bound, mul-le-mul-left k (short-fewer (o .cut) s));
       }
 
   pub open-visits : {r : Region} (n : ℕ) (ns : List ℕ) (k : ℕ) {c : ℕ} {qs : List Region} {b′ : List ℕ} → q ≡ r
@@ -188,13 +189,20 @@ module _ {isSolid : Bool} {whole ws qs : List ℕ} {grid : Grid} {q : Region} {b
       → Visits isSolid (suc k) ws grid (n ∷ ns) r b b′ (length ws + c)
   open-visits n ns k e h f = rw (← e) (cut-visits n ns k h (rw (lent-words start next) at f))
 
+-- The short words, as the code lends them, are the next level's.
+pub open-level : {isSolid : Bool} {whole ws : List ℕ} {grid : Grid} {q : Region} {b b₁ work next : List ℕ}
+    {base start : ℕ} → Level whole ws → Opened isSolid whole ws grid q b b₁ base work next start
+    → Level whole (take (length next - start) (drop start next))
+open-level {next = next} {start = start} l o =
+    record { sound = open-sound (l .sound) o; kept = rw (lent-words start next) (short-kept (o .cut) l) }
+
 -- The same of a cell whose children are l layers, or l rows, of side n.
-module _ {whole ws qs : List ℕ} {grid : Grid} {cell : Cell} {r : Region} {b b₁ work next ps : List ℕ} {start : ℕ}
-    (n l : ℕ)
-    (s : Sound ws)
+module _ {whole ws : List ℕ} {grid : Grid} {cell : Cell} {r : Region} {b b₁ work next : List ℕ} {base start : ℕ}
+    (n l : ℕ) (s : Sound ws)
     (some : 1 ≤ n) (some-part : 1 ≤ l) (parts : r .long ≡ l * n) where
   pub open-layers : CellOf (grid .depth) grid r cell → gridFault true (gridIn grid true) ≡ 0
-      → Opened true whole ws qs grid (regionIn cell) b b₁ work next ps start → (ns : List ℕ) (k : ℕ) {c : ℕ} {b′ : List ℕ}
+      → Opened true whole ws grid (regionIn cell) b b₁ base work next start
+      → (ns : List ℕ) (k : ℕ) {c : ℕ} {b′ : List ℕ}
       → Folds true k (take (length next - start) (drop start next)) grid ns
       (alongZ l l (cell .x) (cell .y) (cell .z) n (cell .xend) (cell .yend) (cell .zend)) b₁ b′ c
       → Visits true (suc k) ws grid (n ∷ ns) r b b′ (length ws + c)
@@ -202,8 +210,8 @@ module _ {whole ws qs : List ℕ} {grid : Grid} {cell : Cell} {r : Region} {b b�
       open-visits s o n ns k (d .same)
       (cell-layers grid cell n l some some-part (ap (λ (q : Region). q .long) (d .same) ∙ parts) (d .ok) e) f
 
-  pub open-rows : CellOf 1 grid r cell → Opened false whole ws qs grid (regionIn cell) b b₁ work next ps start → (ns : List ℕ) (k : ℕ)
-      {c : ℕ} {b′ : List ℕ}
+  pub open-rows : CellOf 1 grid r cell → Opened false whole ws grid (regionIn cell) b b₁ base work next start
+      → (ns : List ℕ) (k : ℕ) {c : ℕ} {b′ : List ℕ}
       → Folds false k (take (length next - start) (drop start next)) grid ns
       (alongY l l (cell .x) (cell .y) 0 n (cell .xend) (cell .yend)) b₁ b′ c
       → Visits false (suc k) ws grid (n ∷ ns) r b b′ (length ws + c)

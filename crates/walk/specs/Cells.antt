@@ -37,6 +37,13 @@ pub record InGrid (layers : ℕ) (grid : Grid) (x y z : ℕ) : Type 0 where
   pub y-in : y < grid .height
   pub z-in : z < layers
 
+-- Where a region of side n may begin.
+pub record ForCell (layers : ℕ) (grid : Grid) (x y z n : ℕ) : Type 0 where
+  pub small : Small layers grid
+  pub place : InGrid layers grid x y z
+  pub some : 1 ≤ n
+  pub few : n ≤ sizeLimit
+
 -- The part of an axis of w samples that a region from i on with side n has ends before e.
 pub record Ends (w i n e : ℕ) : Type 0 where
   pub least : e ≡ lesser w (i + n)
@@ -48,6 +55,11 @@ pub record CellOk (layers : ℕ) (grid : Grid) (c : Cell) : Type 0 where
   pub xs : Ends (grid .width) (c .x) (c .side) (c .xend)
   pub ys : Ends (grid .height) (c .y) (c .side) (c .yend)
   pub zs : Ends layers (c .z) (c .side) (c .zend)
+
+-- A cell of a grid that no line refuses.
+pub record ForBox (isSolid : Bool) (grid : Grid) (c : Cell) : Type 0 where
+  pub fault : gridFault isSolid (gridIn grid isSolid) ≡ 0
+  pub ok : CellOk (layersIn isSolid grid) grid c
 
 abbrev pub regionIn : Cell → Region
 regionIn c = region (c .x) (c .y) (c .z) (c .side)

@@ -3,11 +3,13 @@ use mathlib.Core.Path.{_≡_}
 use mathlib.Core.Bool.{true, false}
 use mathlib.Core.List.{List}
 use Prim.Native.Nat.{ℕ, _≤_}
-use lib.ListN.{length, drop}
+use lib.ListN.{length, take, drop}
 use Rattle.rules.specs.Values.{isNeg, Range, Box}
-use Rattle.rules.specs.Tapes.{rangeOver, shortened}
+use Rattle.rules.specs.Tapes.{shortened}
+use Rattle.rules.specs.Marks.{marksOver, markBytes}
 use Rattle.code.specs.Words.{tapeIn}
 use Rattle.code.specs.Runs.{Fit}
+use Rattle.shortening.specs.Kept.{KeptAs, markRoom}
 use Rattle.walk.specs.declared.verdict.Verdict.{Verdict}
 use Rattle.walk.specs.declared.verdict.Verdict.the-variants.{Full, Empty, Mixed}
 
@@ -28,9 +30,13 @@ Judged x Full = IsFull x
 Judged x Empty = IsEmpty x
 Judged x Mixed = IsMixed x
 
--- A region that is neither full nor empty: the words from m on are its short tape's. On any number of slots that the
--- words fit.
-pub record IsCut (ws : List ℕ) (b : Box) (next : List ℕ) (m : ℕ) : Type 0 where
-  pub range : (n : ℕ) → Fit n ws → IsMixed (rangeOver (tapeIn n ws) b)
+-- The words ws are cut over the box b: from m on stand the words of their short tape, on any number of slots that ws
+-- fit. Whatever marks ms keep ws of the whole tape, those that the box makes of them keep the short tape's words, and
+-- stand in the work buffer from base on.
+pub record CutOver (whole ws : List ℕ) (b : Box) (base : ℕ) (work next : List ℕ) (m : ℕ) : Type 0 where
   pub start : m ≤ length next
   pub short : (n : ℕ) → Fit n ws → tapeIn n (drop m next) ≡ shortened (tapeIn n ws) b
+  pub kept : (n : ℕ) → Fit n ws → (ms : List ℕ) → KeptAs whole ws ms
+      → KeptAs whole (drop m next) (marksOver (tapeIn n whole) ms b)
+  pub bytes : (n : ℕ) → Fit n ws → (ms : List ℕ) → KeptAs whole ws ms
+      → take (markRoom (length whole)) (drop base work) ≡ markBytes (marksOver (tapeIn n whole) ms b)

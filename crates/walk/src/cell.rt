@@ -5,11 +5,9 @@ use picture::grid::Grid;
 use picture::grid::sample;
 ghost use mathlib.Core.Path.{_≡_};
 ghost use mathlib.Core.Bool.{true, false};
-ghost use Prim.Native.Nat.{_≤_};
-ghost use Rattle.rules.specs.Drawings.{region, sizeLimit, gridFault, lesser as lesserOf};
+ghost use Rattle.rules.specs.Drawings.{region, lesser as lesserOf};
 ghost use Rattle.fixed.specs.Shapes.{boxIn, rangeIn};
-ghost use Rattle.picture.specs.Shapes.{gridIn};
-ghost use Rattle.walk.specs.Cells.{Small, InGrid, CellOk, CellOf, SpanIn, spanOf, CellBox};
+ghost use Rattle.walk.specs.Cells.{ForCell, ForBox, CellOf, SpanIn, spanOf, CellBox};
 
 // First index and past the last one on each axis, cut off at the grid's edge, and the side before that.
 pub struct Cell {
@@ -30,9 +28,7 @@ pub fn lesser(a: u32, b: u32) -> u32
 
 // `layers` is the grid's depth in a solid, and 1 in a flat drawing.
 pub fn cell_at(grid: Grid, layers: u32, x: u32, y: u32, z: u32, side: u32) -> Cell
-    requires { ⌜ Small layers grid ⌝ }
-    requires { ⌜ InGrid layers grid x y z ⌝ }
-    requires { ⌜ (1 ≤ side) × (side ≤ sizeLimit) ⌝ }
+    requires { ⌜ ForCell layers grid x y z side ⌝ }
     ensures { λ r. ⌜ CellOf layers grid (region x y z side) r ⌝ }
 {
     Cell {
@@ -59,8 +55,7 @@ pub fn span(origin: i32, step: i32, from: u32, end: u32) -> Span
 
 // The box of a solid's region.
 pub fn solid_bounds(grid: Grid, c: Cell) -> Bounds
-    requires { ⌜ gridFault true (gridIn grid true) ≡ 0 ⌝ }
-    requires { ⌜ CellOk (grid .depth) grid c ⌝ }
+    requires { ⌜ ForBox true grid c ⌝ }
     ensures { λ r. ⌜ CellBox true grid c (boxIn r) ⌝ }
 {
     Bounds {
@@ -72,8 +67,7 @@ pub fn solid_bounds(grid: Grid, c: Cell) -> Bounds
 
 // The box of a flat region: its one z is the grid's, as given.
 pub fn flat_bounds(grid: Grid, c: Cell) -> Bounds
-    requires { ⌜ gridFault false (gridIn grid false) ≡ 0 ⌝ }
-    requires { ⌜ CellOk 1 grid c ⌝ }
+    requires { ⌜ ForBox false grid c ⌝ }
     ensures { λ r. ⌜ CellBox false grid c (boxIn r) ⌝ }
 {
     Bounds {

@@ -64,24 +64,37 @@ impl Drawing {
         Drawing::new(list.tape(), grid)
     }
 
-    /// An accepted input with one thing damaged or two: the tape, the grid or the length of a buffer.
+    /// An accepted input with something damaged.
     pub fn damaged(r: &mut Random) -> Self {
         let grid = grids::wild(r, 400);
         let list = if r.one_in(4) { lists::wide(r, &grid) } else { lists::random(r, &grid) };
         let mut drawing = Drawing::new(list.tape(), grid);
+        drawing.damage(r);
+        drawing
+    }
+
+    /// Damages one thing or two: the tape, the grid or the length of a buffer.
+    pub fn damage(&mut self, r: &mut Random) {
         for _ in 0..1 + r.below(2) {
             match r.below(10) {
-                0..=4 => damage::tape(r, &mut drawing.tape),
-                5..=7 => damage::grid(r, &mut drawing.grid),
-                8 => drawing.work -= 1,
+                0..=4 => damage::tape(r, &mut self.tape),
+                5..=7 => damage::grid(r, &mut self.grid),
+                8 => self.work -= 1,
                 _ => {
                     let off = r.pick(&[-1, 1]);
-                    let length = if r.one_in(2) { &mut drawing.flat } else { &mut drawing.solid };
+                    let length = if r.one_in(2) { &mut self.flat } else { &mut self.solid };
                     *length = length.saturating_add_signed(off);
                 }
             }
         }
-        drawing
+    }
+
+    /// A part of any kind on a flat grid of several 64-tiles.
+    pub fn flat(r: &mut Random, most: u64) -> Self {
+        let mut grid = grids::flat(r, most);
+        let tape = lists::any(r, &grid).tape();
+        grids::unread(r, &mut grid);
+        Drawing::new(tape, grid)
     }
 
     pub fn core_grid(&self) -> raw::Grid {

@@ -86,3 +86,44 @@ pub fn tame(r: &mut Random, most: u64) -> Grid {
 pub fn fine(r: &mut Random, most: u64) -> Grid {
     grid(r, most, fine_axis)
 }
+
+/// The axis of a flat grid: some samples, or several 64-tiles.
+fn flat_size(r: &mut Random) -> u32 {
+    let size = match r.below(6) {
+        0 => 1 + r.below(12),
+        1 => 62 + r.below(8),
+        2 => 126 + r.below(6),
+        _ => 1 + r.below(200),
+    };
+    size as u32
+}
+
+/// A flat grid of at most so many pixels; its depth and third step are 1.
+pub fn flat(r: &mut Random, most: u64) -> Grid {
+    let sizes = loop {
+        let [width, height] = [0; 2].map(|_| flat_size(r));
+        if width as u64 * height as u64 <= most {
+            break [width, height, 1];
+        }
+    };
+    let axis = if r.one_in(4) { wild_axis } else { tame_axis };
+    let axes = sizes.map(|n| axis(r, n));
+    Grid { sizes, origins: axes.map(|a| a.0), steps: [axes[0].1, axes[1].1, 1] }
+}
+
+/// Noise in the fields that a flat drawing does not read.
+pub fn unread(r: &mut Random, grid: &mut Grid) {
+    grid.sizes[2] = r.pick(&[0, 1, 513, u32::MAX]);
+    grid.steps[2] = r.pick(&[0, 1, -1, i32::MIN, i32::MAX]);
+}
+
+/// A solid grid of several 64-tiles and at most so many samples: two tiles along each axis, if that is not too much.
+pub fn tiled(r: &mut Random, most: u64) -> Grid {
+    let samples = |sizes: &[u32; 3]| sizes.iter().map(|&n| n as u64).product::<u64>();
+    let mut sizes = [0; 3].map(|_| 65 + r.below(5) as u32);
+    while samples(&sizes) > most {
+        sizes = sizes.map(|_| r.pick(&[1, 2, 3, 9, 65, 70, 128, 130, 200]));
+    }
+    let axes = sizes.map(|n| tame_axis(r, n));
+    Grid { sizes, origins: axes.map(|a| a.0), steps: axes.map(|a| a.1) }
+}

@@ -1,7 +1,7 @@
 //! Random lists of clauses.
 
-use crate::grids;
 use crate::random::Random;
+use crate::{grids, shapes};
 use slow::draw::Grid;
 use slow::tape::Tape;
 
@@ -94,6 +94,21 @@ fn list(r: &mut Random, grid: &Grid, slots: u64, count: u64, kind: &Kind) -> Lis
         }
     }
     List { slots: slots as u32, clauses }
+}
+
+/// A list of choices with so many slots and clauses.
+pub fn sized(r: &mut Random, grid: &Grid, slots: u64, count: u64) -> List {
+    list(r, grid, slots, count, &CHOICES)
+}
+
+/// A list of any kind, none of them long.
+pub fn any(r: &mut Random, grid: &Grid) -> List {
+    match r.below(8) {
+        0 | 1 => random(r, grid),
+        2 => arithmetic(r, grid),
+        3 => wide(r, grid),
+        _ => shapes::random(r, grid),
+    }
 }
 
 /// A list of more slots than edition 01 has.

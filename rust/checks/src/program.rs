@@ -4,7 +4,7 @@ use crate::drawing::Drawing;
 use crate::random::Random;
 use slow::call::Answer;
 use slow::draw::Grid;
-use slow::program::program;
+use slow::program::{program, record};
 use std::io::{self, Read, Write};
 use std::path::Path;
 use std::process::{Child, ChildStdin, Command, ExitStatus, Stdio};
@@ -14,11 +14,7 @@ use std::time::{Duration, Instant};
 
 /// The grid record and the tape. A size that two bytes don't hold loses what is above them.
 pub fn input(grid: &Grid, tape: &[u8]) -> Vec<u8> {
-    let mut bytes = vec![0x47, 0x52];
-    bytes.extend(grid.sizes.iter().flat_map(|&n| (n as u16).to_le_bytes()));
-    bytes.extend(grid.origins.iter().chain(&grid.steps).flat_map(|v| v.to_le_bytes()));
-    bytes.extend(tape);
-    bytes
+    [&record(grid), tape].concat()
 }
 
 /// The input of the flat drawing: depth 0.

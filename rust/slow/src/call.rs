@@ -21,7 +21,7 @@ pub(crate) fn answer(done: Result<u64, Refused>) -> Answer {
     }
 }
 
-fn exact_len<T>(buffer: &[T], len: usize, number: u8) -> Result<(), Refused> {
+pub(crate) fn exact_len<T>(buffer: &[T], len: usize, number: u8) -> Result<(), Refused> {
     if buffer.len() == len { Ok(()) } else { refuse(number) }
 }
 
@@ -68,14 +68,20 @@ impl Picture for u16 {
     }
 }
 
-fn checked<P: Picture>(tape: &[u8], grid: &Grid, picture: &[P]) -> Result<Tape, Refused> {
+/// Lines 1 to 12.
+pub(crate) fn checked<P: Picture>(tape: &[u8], grid: &Grid, picture: &[P]) -> Result<Tape, Refused> {
     if planted(Fault::GridBeforeTape) {
         grid.check(P::SOLID)?;
     }
     let tape = Tape::from_bytes(tape)?;
-    grid.check(P::SOLID)?;
-    exact_len(picture, grid.picture_len(P::SOLID), 12)?;
+    fits(grid, picture)?;
     Ok(tape)
+}
+
+/// Lines 10 to 12.
+pub(crate) fn fits<P: Picture>(grid: &Grid, picture: &[P]) -> Result<(), Refused> {
+    grid.check(P::SOLID)?;
+    exact_len(picture, grid.picture_len(P::SOLID), 12)
 }
 
 /// The full drawing, flat or solid by the picture's type.
@@ -88,7 +94,7 @@ pub fn draw<P: Picture>(tape: &[u8], grid: &Grid, picture: &mut [P]) -> Answer {
 }
 
 /// Line 13.
-fn enough_work(work: &[u8]) -> Result<(), Refused> {
+pub(crate) fn enough_work(work: &[u8]) -> Result<(), Refused> {
     if work.len() < 32_768 { refuse(13) } else { Ok(()) }
 }
 

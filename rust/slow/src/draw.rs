@@ -50,14 +50,29 @@ impl Grid {
         if solid { self.sizes[2] } else { 1 }
     }
 
+    /// The axes drawn.
+    fn drawn(solid: bool) -> usize {
+        if solid { 3 } else { 2 }
+    }
+
     /// Lines 10 and 11.
     pub fn check(&self, solid: bool) -> Result<(), Refused> {
-        let axes = if solid { 3 } else { 2 };
-        if self.sizes[..axes].iter().any(|n| !(1..=512).contains(n)) {
+        self.check_sizes(solid)?;
+        self.check_samples(solid)
+    }
+
+    /// Line 10.
+    pub fn check_sizes(&self, solid: bool) -> Result<(), Refused> {
+        if self.sizes[..Self::drawn(solid)].iter().any(|n| !(1..=512).contains(n)) {
             return refuse(10);
         }
+        Ok(())
+    }
+
+    /// Line 11, where line 10 does not hold.
+    pub fn check_samples(&self, solid: bool) -> Result<(), Refused> {
         let outside = |v: i128| !(-M..=M).contains(&v);
-        for axis in 0..axes {
+        for axis in 0..Self::drawn(solid) {
             if self.steps[axis] < 1 || outside(self.first_tested(axis)) || outside(self.last_tested(axis)) {
                 return refuse(11);
             }

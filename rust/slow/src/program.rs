@@ -71,6 +71,14 @@ fn grid(input: &[u8]) -> Grid {
     }
 }
 
+/// A grid's record. A size that two bytes don't hold loses what is above them.
+pub fn record(grid: &Grid) -> Vec<u8> {
+    let mut bytes = MARK.to_vec();
+    bytes.extend(grid.sizes.iter().flat_map(|&n| (n as u16).to_le_bytes()));
+    bytes.extend(grid.origins.iter().chain(&grid.steps).flat_map(|v| v.to_le_bytes()));
+    bytes
+}
+
 /// Line 16.
 fn small_enough(grid: &Grid) -> Result<(), Refused> {
     let [width, height, depth] = grid.sizes;

@@ -44,7 +44,7 @@ cast-list-clauses c = omega (arith, counts-hold _ _ (counted c) .clauses)
 list-clauses-requires : tie.Need-list-clauses-requires
 list-clauses-requires c κs =
     let w = counts-hold _ _ (counted c) in
-    (w .slots, (w .clauses, omega (arith, length-tested c .if1 .left)))
+    record { slots-in = w .slots; clauses-in = w .clauses; size = omega (arith, length-tested c .if1 .left) }
 
 returns-3 : tie.Need-returns-3
 returns-3 c = let e = c .before in list-on _ _ _ (length-tested e .if1 .left) (counted e) (c .list-clauses .ensures)

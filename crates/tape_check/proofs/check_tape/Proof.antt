@@ -94,7 +94,7 @@ returns-4 c =
 tape-clauses-requires : tie.Need-tape-clauses-requires
 tape-clauses-requires c κs =
     let w = counts-hold _ _ (head-counts-hold _ _ _ (counted (c .before))) in
-    (w .slots, (w .clauses, c .if4 .left))
+    record { slots-in = w .slots; clauses-in = w .clauses; size = c .if4 .left }
 
 returns-5 : tie.Need-returns-5
 returns-5 c =

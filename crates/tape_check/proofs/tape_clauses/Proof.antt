@@ -78,13 +78,13 @@ returns c =
 cast-with : tie.Need-cast-with Inv-loop μ-loop
 cast-with c =
     let d = judged c in
-    out-cast _ _ _ _ _ _ (here d) _ (d .clause-fault .ensures) (at-start (at-loop d .before) .pre .0)
+    out-cast _ _ _ _ _ _ (here d) _ (d .clause-fault .ensures) (at-start (at-loop d .before) .pre .slots-in)
     (c .struct-told .given .1 .0 .1) (c .before .before .if1 .left)
 
 with-requires : tie.Need-with-requires Inv-loop μ-loop
 with-requires c κs =
     let d = judged c in
-    out-below _ _ _ _ _ _ (here d) _ (d .clause-fault .ensures) (at-start (at-loop d .before) .pre .0)
+    out-below _ _ _ _ _ _ (here d) _ (d .clause-fault .ensures) (at-start (at-loop d .before) .pre .slots-in)
     (c .struct-told .given .1 .0 .1) (c .before .before .if1 .left)
 
 add-i : tie.Need-add-i Inv-loop μ-loop
@@ -100,7 +100,7 @@ loop-again c =
     let i = at-loop d .loop .i in (
       search needs,
       walk-to (sym (add-one i)) refl
-          (next _ _ _ _ _ _ (here d) _ (d .clause-fault .ensures) (at-start (at-loop d .before) .pre .0)
+          (next _ _ _ _ _ _ (here d) _ (d .clause-fault .ensures) (at-start (at-loop d .before) .pre .slots-in)
           (t .struct-told .given .1 .0 .1) (t .before .before .if1 .left) _ (c .with .ensures)),
     )
 

@@ -6,6 +6,7 @@ mod draw;
 mod examples;
 mod faults;
 mod figures;
+mod inputs;
 mod lanes;
 mod probe;
 mod program;

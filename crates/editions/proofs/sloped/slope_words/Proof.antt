@@ -8,36 +8,36 @@ use lib.Seq.{length-take-le}
 use Rattle.picture.specs.Shapes.{gridIn}
 use Rattle.editions.specs.Sizes.{TilesOf}
 use Rattle.picture.proofs.PictureSizes.{solid-size}
-use Rattle.editions.proofs.TapeWords.{words-room, words-few, words-within, sound, tiles-of}
+use Rattle.editions.proofs.TapeWords.{words-room, words-few, words-within, whole-level, tiles-of}
 use Rattle.editions.proofs.TapeSlopes.{walked-heights, slopes-of}
 use Rattle.editions.proofs.sloped.slope_words.Statement.{statement}
 use Rattle.editions.proofs.sloped.slope_words.Tie as tie
 
 -- The places: the start, once the words are there, before and after the walk, and before and after the slopes.
 abbrev begun : tie.After-unpack-words-arg → tie.Start
-begun c = c .before .before .before .before .before .before .before .before .before .before .before .before
+begun c = c .before .before .before .before .before .before .before .before
 
 abbrev start : tie.After-unpack-words → tie.Start
 start c = begun (c .before)
 
-abbrev unpacked : tie.After-tile-solid-arg10 → tie.After-unpack-words
-unpacked c = c .before .before .before .before .before .before .before .before .before .before .before .before
+abbrev unpacked : tie.After-tile-solid-arg6 → tie.After-unpack-words
+unpacked c = c .before .before .before .before .before .before .before .before
 
-abbrev walked : tie.After-slice-known20 → tie.After-tile-solid
-walked c = c .before .before .before .before .before .before .before .before .before .before .before .before .before .before .before .before .before .before
+abbrev walked : tie.After-slice-known12 → tie.After-tile-solid
+walked c = c .before .before .before .before .before .before .before .before .before .before
 
-abbrev lent : tie.After-shade-arg9 → tie.After-tile-solid
-lent c = walked (c .before .before .before .before .before .before .before .before .before)
+abbrev lent : tie.After-shade-arg6 → tie.After-tile-solid
+lent c = walked (c .before .before .before .before .before .before)
 
-abbrev shaded : tie.After-slice-known26 → tie.After-shade
-shaded c = c .before .before .before .before .before .before .before .before .before .before .before .before .before
+abbrev shaded : tie.After-slice-known15 → tie.After-shade
+shaded c = c .before .before .before .before .before .before .before
 
 long : (c : tie.After-unpack-words) → length (c .unpack-words .last .1 .0) ≡ length (start c .args .words .now)
 long c = c .unpack-words .kept .1 .0
 
 tiles : (v : tie.After-tile-solid)
     → (let a = start (unpacked (v .before)) .args in
-    TilesOf true (a .tape .now) (gridIn (a .grid) true) (v .tile-solid .last .1 .1 .1 .0) (v .tile-solid .result))
+    TilesOf true (a .tape .now) (gridIn (a .grid) true) (v .tile-solid .last .1 .1 .0) (v .tile-solid .result))
 tiles v =
     let u = unpacked (v .before) in
     tiles-of (start u .pre .0) (u .unpack-words .ensures) (long u) (v .tile-solid .ensures)
@@ -60,13 +60,15 @@ tile-solid-requires c κs =
     let o = u .unpack-words .ensures in
     let h = long u in
     let few = words-few d o h in
-    let within = words-within d o h in (
-      sound d o h,
-      (
-        record { fault = d .grid; size = d .size ∙ sym (solid-size true _ refl) },
-        (omega arith, (omega arith, omega arith, omega arith, omega arith, omega arith, omega arith, omega arith)),
-      ),
-    )
+    let within = words-within d o h in
+    record {
+      level = whole-level d o h;
+      ready = record { fault = d .grid; size = d .size ∙ sym (solid-size true _ refl) };
+      room = omega arith;
+      first = omega arith;
+      second = omega arith;
+      third = omega arith;
+    }
 
 slice-reshare-prefix-shade : tie.Need-slice-reshare-prefix-shade
 slice-reshare-prefix-shade c =
@@ -87,35 +89,24 @@ shade-requires c κs =
     let few = words-few d o h in
     let within = words-within d o h in
     let k = v .tile-solid .kept .1 in
-    let picture = k .1 .1 .0 in
-    let places = k .0 in
-    let work = k .1 .1 .1 .0 in
-    let first = k .1 .1 .1 .1 .0 in
-    let firstplaces = k .1 .1 .1 .1 .1 .0 in
-    let second = k .1 .1 .1 .1 .1 .1 .0 in
-    let secondplaces = k .1 .1 .1 .1 .1 .1 .1 .0 in (
-      sound d o h,
-      (
-        record {
-          heights = record {
-            fault = d .grid;
-            size = picture ∙ d .size ∙ sym (solid-size true _ refl);
-            most = walked-heights d (tiles v);
-          };
-          slopes = p .0;
-        },
-        (
-          omega (arith, places, within, r .1 .0),
-          (
-            omega (arith, work, few, r .0),
-            omega (arith, first, within, r .1 .1),
-            omega (arith, first, firstplaces, r .1 .1, r .1 .2),
-            omega (arith, second, within, r .1 .3),
-            omega (arith, second, secondplaces, r .1 .3, r .1 .4),
-          ),
-        ),
-      ),
-    )
+    let picture = k .1 .0 in
+    let work = k .1 .1 .0 in
+    let first = k .1 .1 .1 .0 in
+    let second = k .1 .1 .1 .1 .0 in
+    record {
+      level = whole-level d o h;
+      fits = record {
+        heights = record {
+          fault = d .grid;
+          size = picture ∙ d .size ∙ sym (solid-size true _ refl);
+          most = walked-heights d (tiles v);
+        };
+        slopes = p .0;
+      };
+      marks = omega (arith, work, few, r .0);
+      words-first = omega (arith, first, within, r .1 .0);
+      words-second = omega (arith, second, within, r .1 .1);
+    }
 
 same-length : tie.Need-same-length
 same-length c = search needs
@@ -137,18 +128,6 @@ same-length-6 c = search needs
 
 same-length-7 : tie.Need-same-length-7
 same-length-7 c = search needs
-
-same-length-8 : tie.Need-same-length-8
-same-length-8 c = search needs
-
-same-length-9 : tie.Need-same-length-9
-same-length-9 c = search needs
-
-same-length-10 : tie.Need-same-length-10
-same-length-10 c = search needs
-
-same-length-11 : tie.Need-same-length-11
-same-length-11 c = search needs
 
 returns : tie.Need-returns
 returns c =
@@ -175,8 +154,4 @@ slope-words-spec =
     same-length-5
     same-length-6
     same-length-7
-    same-length-8
-    same-length-9
-    same-length-10
-    same-length-11
     returns)

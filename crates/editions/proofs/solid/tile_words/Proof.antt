@@ -6,22 +6,22 @@ use native.Mathlib.Omega.{arith}
 use lib.ListN.{length}
 use lib.Seq.{length-take-le}
 use Rattle.picture.proofs.PictureSizes.{solid-size}
-use Rattle.editions.proofs.TapeWords.{words-room, words-few, words-within, sound, tiles-of}
+use Rattle.editions.proofs.TapeWords.{words-room, words-few, words-within, whole-level, tiles-of}
 use Rattle.editions.proofs.solid.tile_words.Statement.{statement}
 use Rattle.editions.proofs.solid.tile_words.Tie as tie
 
 -- The places: the start, once the words are there, and that, before and after the walk.
 abbrev begun : tie.After-unpack-words-arg → tie.Start
-begun c = c .before .before .before .before .before .before .before .before .before .before .before .before
+begun c = c .before .before .before .before .before .before .before .before
 
 abbrev start : tie.After-unpack-words → tie.Start
 start c = begun (c .before)
 
-abbrev unpacked : tie.After-tile-solid-arg10 → tie.After-unpack-words
-unpacked c = c .before .before .before .before .before .before .before .before .before .before .before .before
+abbrev unpacked : tie.After-tile-solid-arg6 → tie.After-unpack-words
+unpacked c = c .before .before .before .before .before .before .before .before
 
-abbrev walked : tie.After-slice-known20 → tie.After-tile-solid
-walked c = c .before .before .before .before .before .before .before .before .before .before .before .before .before .before .before .before .before .before
+abbrev walked : tie.After-slice-known12 → tie.After-tile-solid
+walked c = c .before .before .before .before .before .before .before .before .before .before
 
 long : (c : tie.After-unpack-words) → length (c .unpack-words .last .1 .0) ≡ length (start c .args .words .now)
 long c = c .unpack-words .kept .1 .0
@@ -44,13 +44,15 @@ tile-solid-requires c κs =
     let o = u .unpack-words .ensures in
     let h = long u in
     let few = words-few d o h in
-    let within = words-within d o h in (
-      sound d o h,
-      (
-        record { fault = d .grid; size = d .size ∙ sym (solid-size true _ refl) },
-        (omega arith, (omega arith, omega arith, omega arith, omega arith, omega arith, omega arith, omega arith)),
-      ),
-    )
+    let within = words-within d o h in
+    record {
+      level = whole-level d o h;
+      ready = record { fault = d .grid; size = d .size ∙ sym (solid-size true _ refl) };
+      room = omega arith;
+      first = omega arith;
+      second = omega arith;
+      third = omega arith;
+    }
 
 returns : tie.Need-returns
 returns c =
@@ -76,18 +78,6 @@ same-length-5 c = search needs
 same-length-6 : tie.Need-same-length-6
 same-length-6 c = search needs
 
-same-length-7 : tie.Need-same-length-7
-same-length-7 c = search needs
-
-same-length-8 : tie.Need-same-length-8
-same-length-8 c = search needs
-
-same-length-9 : tie.Need-same-length-9
-same-length-9 c = search needs
-
-same-length-10 : tie.Need-same-length-10
-same-length-10 c = search needs
-
 pub tile-words-spec : {M : Type 1} → statement M
 tile-words-spec =
     tie.close
@@ -102,8 +92,4 @@ tile-words-spec =
     same-length-4
     same-length-5
     same-length-6
-    same-length-7
-    same-length-8
-    same-length-9
-    same-length-10
     returns)

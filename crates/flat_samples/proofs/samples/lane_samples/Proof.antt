@@ -29,12 +29,12 @@ loop-holds c = (omega arith, none-below _ _ _ refl)
 lane-index-requires : tie.Need-lane-index-requires Inv-loop μ-loop
 lane-index-requires c κs =
     let p = c .before .before .pre in
-    (p .0 .some, p .1, c .loop-test .taken)
+    (p .span .some, p .small, c .loop-test .taken)
 
 sample-requires : tie.Need-sample-requires Inv-loop μ-loop
 sample-requires c κs =
     let s = c .before .before .before in
-    span-words (s .fits .origin) (s .fits .step) (s .pre .0) .values _ (c .lane-index .ensures .0)
+    span-words (s .fits .origin) (s .fits .step) (s .pre .span) .values _ (c .lane-index .ensures .0)
 
 mul-r : tie.Need-mul-r Inv-loop μ-loop
 mul-r c = search needs

@@ -29,24 +29,23 @@ sample-requires : tie.Need-sample-requires
 sample-requires c κs =
     let s = start (c .before) in
     let f = told (c .before) in
-    let p = s .pre .1 in
-    let y = accepted (s .args .grid) false (p .0) .y-value (s .args .y) (omega (arith, p .1 .0 .ys, p .1 .1 .0 .1)) in
+    let p = s .pre in
+    let y = accepted (s .args .grid) false (p .fault) .y-value (s .args .y) (omega (arith, p .ok .ys, p .row)) in
     axis-asked _ _ _ (f .yorigin) (f .ystep) y
 
 run-row-requires : tie.Need-run-row-requires
 run-row-requires c κs =
     let p = start (c .before .before .before .before) .pre in
-    (sound-runs (p .0), p .1 .1 .1 .1 .1)
+    record { runs = sound-runs (p .sound); size = p .size }
 
 sub-sign-byte : tie.Need-sub-sign-byte
 sub-sign-byte c =
-    let p = start (with-y (c .before) .before .before) .pre .1 in
-    omega (arith, p .1 .0 .xs)
+    omega (arith, start (with-y (c .before) .before .before) .pre .ok .xs)
 
 sign-byte-requires : tie.Need-sign-byte-requires
 sign-byte-requires c κs =
-    let p = start (with-y (c .before) .before .before) .pre .1 in
-    omega (arith, p .1 .0 .xs, p .1 .1 .0 .0)
+    let p = start (with-y (c .before) .before .before) .pre in
+    omega (arith, p .ok .xs, p .side)
 
 returns : tie.Need-returns
 returns c =
@@ -54,13 +53,13 @@ returns c =
     let t = with-y r .before .before in
     let v = with-y r .sample in
     let f = told t in
-    let p = start t .pre .1 in
+    let p = start t .pre in
     let ey = axis-answer _ _ _ _ (f .yorigin) (f .ystep) (v .ok) (v .ensures) in (
       λ n a.
           c .sign-byte .ensures .byte _
-          (row-signs (p .1 .0) (p .1 .1 .0 .0) (p .0) _ _ _ _ _ _ (p .1 .1 .0 .1) (p .1 .1 .1 .0) ey
+          (row-signs (p .ok) (p .side) (p .fault) _ _ _ _ _ _ (p .row) (p .lanes) ey
           (toZ-ofZ (f .zorigin)) (r .run-row .ensures) n a),
-      r .run-row .ensures .size ∙ p .1 .1 .1 .1,
+      r .run-row .ensures .size ∙ p .size,
     )
 
 pub row-byte-spec : {M : Type 1} → statement M

@@ -25,10 +25,7 @@ abbrev stored : tie.After-struct-known3 → tie.After-store-row
 stored c = c .before .before .before
 
 row-byte-requires : tie.Need-row-byte-requires
-row-byte-requires c κs =
-    let p = c .before .before .before .pre in
-    let q = p .1 .1 .1 in
-    (p .0, (p .1 .0 .fault, (p .1 .1 .0, ((q .0 .0, q .0 .2), (q .1 .0, q .1 .1 .0)))))
+row-byte-requires c κs = c .before .before .before .pre .byte
 
 cast-store-row : tie.Need-cast-store-row
 cast-store-row c = search needs
@@ -39,15 +36,16 @@ cast-store-row-2 c = search needs
 store-row-requires : tie.Need-store-row-requires
 store-row-requires c κs =
     let b = c .before .before .before in
-    let s = start b .pre .0 in
-    let p = start b .pre .1 in
-    let k = p .1 .0 in (
-      pixels-in _ _ _ (p .0) (p .1 .1 .0 .1) (omega arith) (omega (arith, k .xs)) (omega (arith, k .ys, p .1 .1 .0 .2)),
+    let p = start b .pre in
+    let s = p .byte .sound in
+    let k = p .byte .ok in (
+      pixels-in _ _ _ (p .ready) (p .start) (omega (arith, k .xs)) (omega (arith, k .xs))
+          (omega (arith, k .ys, p .byte .row)),
       samples-spare k _ _ _ (b .row-byte .ensures .0 (s .slots) (s .accepted)),
     )
 
 sub-result : tie.Need-sub-result
-sub-result c = omega (arith, start (with-byte (stored c)) .pre .1 .1 .0 .xs)
+sub-result c = omega (arith, start (with-byte (stored c)) .pre .byte .ok .xs)
 
 cast-result : tie.Need-cast-result
 cast-result c = search needs
@@ -60,14 +58,15 @@ drawn : (c : tie.After-struct-known3)
 drawn c =
     let u = stored c in
     let b = with-byte u in
-    let p = start b .pre .1 .1 in
-    row-folds (p .0) (p .1 .0 .0) _ _ _ (p .1 .0 .2) (b .row-byte .ensures .0)
-    (row-stored (p .0) (p .1 .0 .0) _ _ (p .1 .0 .1) (p .1 .1 .1 .1) (u .store-row .ensures))
+    let p = start b .pre in
+    let k = p .byte in
+    row-folds (k .ok) (k .side) _ _ _ (k .row) (b .row-byte .ensures .0)
+    (row-stored (k .ok) (k .side) _ _ (p .start) (p .blank) (u .store-row .ensures))
 
 mul-result : tie.Need-mul-result
 mul-result c =
     let s = start (with-byte (stored c)) in
-    omega (arith, sound-length (s .pre .0), drawn c .bound)
+    omega (arith, sound-length (s .pre .byte .sound), drawn c .bound)
 
 same-length : tie.Need-same-length
 same-length c = search needs
@@ -75,10 +74,9 @@ same-length c = search needs
 returns : tie.Need-returns
 returns c =
     let u = stored c in
-    let p = start (with-byte u) .pre .1 .1 in (
-      drawn c,
-      (with-byte u .row-byte .ensures .1, stored-apart (p .1 .0 .1) (omega (arith, p .0 .xs)) (u .store-row .ensures)),
-    )
+    let p = start (with-byte u) .pre in
+    let a = stored-apart (p .start) (omega (arith, p .byte .ok .xs)) (u .store-row .ensures) in
+    (drawn c, (with-byte u .row-byte .ensures .1, a))
 
 pub sample-row-spec : {M : Type 1} → statement M
 sample-row-spec =

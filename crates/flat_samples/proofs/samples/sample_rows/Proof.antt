@@ -55,11 +55,11 @@ past c = c .before .before
 lane-samples-requires : tie.Need-lane-samples-requires Inv-loop μ-loop
 lane-samples-requires c κs =
     let t = c .before in
-    let p = begun t .pre .1 in
+    let p = begun t .pre in
     let f = told t in
-    let d = ready-small (p .0) in
-    let x = x-span false _ _ (p .1 .0) (p .0 .fault) in
-    (span-words (f .xorigin) (f .xstep) x, omega (arith, d .width, p .1 .0 .xs))
+    let d = ready-small (p .ready) in
+    let x = x-span false _ _ (p .ok) (p .ready .fault) in
+    record { span = span-words (f .xorigin) (f .xstep) x; small = omega (arith, d .width, p .ok .xs) }
 
 -- The samples that the lanes run on.
 samples : (c : tie.At-loop Inv-loop μ-loop)
@@ -71,35 +71,47 @@ samples c =
 
 loop-holds : tie.Need-loop-holds Inv-loop μ-loop
 loop-holds c =
-    let p = begun (c .before .before) .pre .1 in
-    (rows-begin _ (omega arith) (omega arith), p .1 .1 .1 .0, apart-none _ _ _ _ _ _)
+    let p = begun (c .before .before) .pre in
+    (rows-begin _ (omega arith) (omega (arith, p .ok .ys, p .side)), p .size, apart-none _ _ _ _ _ _)
 
 sample-row-requires : tie.Need-sample-row-requires Inv-loop μ-loop
 sample-row-requires c κs =
     let t = in-turn c in
     let l = at-test t in
     let i = l .loop .inv in
-    let s = start l in
-    let p = s .pre .1 .1 in
-    let r = ready-again (s .pre .1 .0) (i .0 .place .size) in
-    let k = p .0 .ys in
+    let p = start l .pre in
+    let k = p .ok .ys in
+    let s = p .side in
     let o = i .0 .place .place in
-    let b = blank-below {yend = l .loop .y + 1} (omega arith) (omega (arith, t .if1 .taken)) (i .2) (p .1 .1 .1) in
-    (s .pre .0, (r, (p .0, ((p .1 .0 .0, p .1 .0 .1, t .if1 .taken), (samples l, (i .1, b))))))
+    record {
+      byte = record {
+        sound = p .sound;
+        fault = p .ready .fault;
+        ok = p .ok;
+        side = s;
+        row = t .if1 .taken;
+        lanes = samples l;
+        size = i .1;
+      };
+      ready = ready-again (p .ready) (i .0 .place .size);
+      start = p .start;
+      blank = blank-below {yend = l .loop .y + 1} (omega (arith, o)) (omega (arith, t .if1 .taken, k, s)) (i .2)
+          (p .blank);
+    }
 
 add-count : tie.Need-add-count Inv-loop μ-loop
 add-count c =
     let t = in-turn (called c .before) in
     let l = at-test t in
     let u = up-sum (l .loop .inv .0 .place) (t .if1 .taken) (called c .sample-row .ensures .0 .bound) in
-    omega (arith, sound-length (start l .pre .0), u)
+    omega (arith, sound-length (start l .pre .sound), u)
 
 add-y : tie.Need-add-y Inv-loop μ-loop
 add-y c =
     let t = in-turn (called c .before) in
-    let p = start (at-test t) .pre .1 in
-    let d = ready-small (p .0) in
-    omega (arith, t .if1 .taken)
+    let p = start (at-test t) .pre in
+    let d = ready-small (p .ready) in
+    omega (arith, t .if1 .taken, p .ok .ys, d .height)
 
 loop-less : tie.Need-loop-less Inv-loop μ-loop
 loop-less c = omega (arith, in-turn (called c .before) .if1 .taken)

@@ -1,74 +1,63 @@
 -- Done by the look, or cut and its children visited.
-use mathlib.Core.Path.{_≡_, refl, ap}
+use mathlib.Core.Path.{_≡_, refl}
 use mathlib.Core.Bool.{false}
-use Prim.Native.Nat.{_*_, _%_, _≤_}
+use Prim.Native.Nat.{_*_, _≤_}
 use native.Mathlib.Omega.{arith}
 use lib.ListN.{length}
-use Rattle.rules.specs.Drawings.{flatBound, Region, region}
+use Rattle.rules.specs.Drawings.{flatBound}
 use Rattle.picture.proofs.PartLaws.{apart-then}
-use Rattle.walk.specs.Cells.{CellOf, regionIn}
+use Rattle.walk.specs.Cells.{regionIn}
 use Rattle.walk.specs.Walks.{Opened}
-use Rattle.walk.proofs.CellLaws.{ready-small}
-use Rattle.walk.proofs.LookLaws.{sound-length, done-of, open-of, done-visits, open-level, open-fewer, open-rows}
+use Rattle.walk.proofs.LookLaws.{sound-length, done-of, open-of, done-visits, open-level, open-fewer}
+use Rattle.walk.proofs.OpenLaws.{open-children}
 use Rattle.walk.proofs.Places.{ready-again}
-use Rattle.flat_blocks.specs.Sides.{below8}
-use Rattle.flat_blocks.proofs.CellParts.{cell-blank, cell-apart, side-apart}
+use Rattle.flat_eights.specs.Sides.{below8}
+use Rattle.flat_eights.proofs.CellParts.{looked-apart, same-blank}
 use borrow.Author.Needs.{needs}
 use Rattle.flat_tiles.proofs.tiles.visit_tile.Statement.{statement}
 use Rattle.flat_tiles.proofs.tiles.visit_tile.Tie as tie
 
--- The places: the start, before and after the cell is made; the look, from either arm; in the arm of a cut the call for
--- the children, and what is after it.
-abbrev begun : tie.After-slice-known6 → tie.Start
-begun c = c .before .before .before .before .before .before .before .before
+-- The places: the start; the look, from either arm; in the arm of a cut the call for the children, and after it.
+abbrev begun : tie.After-slice-known4 → tie.Start
+begun c = c .before .before .before .before .before
 
-abbrev start : tie.After-cell-at → tie.Start
-start c = begun (c .before)
-
-abbrev with-cell : tie.After-look → tie.After-cell-at
-with-cell c = c .before .before .before .before .before
+abbrev start : tie.After-look → tie.Start
+start c = begun (c .before .before .before .before)
 
 abbrev done : tie.After-known-told → tie.After-look
-done c = c .before .before .before .before .before .before .before .before .before .before .before
+done c = c .before .before .before .before .before .before .before .before .before
 
 abbrev looked : tie.After-known-told2 → tie.After-look
-looked c = c .before .before .before .before .before .before .before .before .before .before .before
+looked c = c .before .before .before .before .before .before .before .before .before
 
-abbrev in-cut : tie.After-eight-rows-arg5 → tie.After-known-told2
-in-cut c = c .before .before .before .before .before .before .before .before .before
+abbrev in-cut : tie.After-eights-arg4 → tie.After-known-told2
+in-cut c = c .before .before .before .before .before .before
 
-abbrev visited : tie.After-slice-known14 → tie.After-eight-rows
-visited c = c .before .before .before .before .before .before .before .before
-
-abbrev made-cell : tie.After-look-arg4 → tie.After-cell-at
-made-cell c = c .before .before .before .before
-
--- What is known at them.
-made : (c : tie.After-cell-at)
-    → let a = start c .args in CellOf 1 (a .grid) (region (a .x) (a .y) 0 64) (c .cell-at .result)
-made c = c .cell-at .ensures
-
-begins : (c : tie.After-cell-at) → c .cell-at .result .x % 8 ≡ 0
-begins c = omega (arith, ap (λ (q : Region). q .i) (made c .same), start c .pre .1 .1 .1 .0)
+abbrev visited : tie.After-slice-known10 → tie.After-eights
+visited c = c .before .before .before .before .before .before
 
 opened : (c : tie.After-known-told2)
     → let j = looked c in
-    let a = start (with-cell j) .args in
-    Opened false (a .whole .now) (a .whole .now) (a .places .now) (a .grid) (regionIn (with-cell j .cell-at .result)) (a .picture .now)
-    (j .look .last .1 .1 .1 .1 .1 .0) (j .look .last .1 .1 .1 .1 .1 .1 .0) (j .look .last .1 .1 .1 .1 .1 .1 .1 .1 .0)
-    (j .look .last .1 .1 .1 .1 .1 .1 .1 .1 .1 .0) (c .before .seen2 .given .0 .0)
-opened c = open-of false _ _ _ _ _ _ _ _ _ _ (looked c .look .ensures .0) (c .before .seen2 .given .1)
-
-cell-at-requires : tie.Need-cell-at-requires
-cell-at-requires c κs =
-    let p = begun c .pre .1 in (ready-small (p .0), (p .1 .0, (omega arith, omega arith)))
+    let a = start j .args in
+    let now = j .look .last .1 .1 .1 .1 in
+    Opened false (a .whole .now) (a .whole .now) (a .grid) (regionIn (a .cell)) (a .picture .now)
+    (now .0) (length (a .whole .now)) (now .1 .0) (now .1 .1 .1 .0) (c .before .seen2 .given .0 .0)
+opened c = open-of false _ _ _ _ _ _ _ _ _ (looked c .look .ensures .0) (c .before .seen2 .given .1)
 
 look-requires : tie.Need-look-requires
 look-requires c κs =
-    let k = made-cell c in
-    let p = start k .pre in
-    let r = p .1 .1 .1 .1 .0 in
-    (p .0, (p .1 .0, (made k .ok, (begins k, ((omega arith, omega arith), (omega arith, omega arith))))))
+    let p = begun (c .before .before .before) .pre in
+    let l = p .lent in
+    record {
+      look = record {
+        level = l .level;
+        ready = l .ready;
+        cell = p .ok;
+        marks = record { behind = omega arith; within = omega (arith, l .marks) };
+        words = l .words-first;
+      };
+      even = p .start;
+    }
 
 enum-known-seen : tie.Need-enum-known-seen
 enum-known-seen c = search needs
@@ -80,8 +69,8 @@ mul-short : tie.Need-mul-short
 mul-short c =
     let j = looked c in
     let o = opened c .cut .start in
-    let g = start (with-cell j) .good in
-    omega (arith, j .look .kept .1 .1 .1 .1 .1 .1 .1 .1 .0)
+    let g = start j .good in
+    omega (arith, j .look .kept .1 .1 .1 .1 .1 .1 .1 .0)
 
 sub-short : tie.Need-sub-short
 sub-short c = opened c .cut .start
@@ -92,63 +81,32 @@ part-short-start c = opened (c .before) .cut .start
 part-short-end : tie.Need-part-short-end
 part-short-end c = search needs
 
--- The places are as many as the words.
-places-start : (c : tie.After-known-told2) → let v = looked c .look .last .1 .1 .1 .1 .1 .1 .1 .1 .1 .0 in
-    c .before .seen2 .given .0 .0 ≤ length v
-places-start c =
-    let j = looked c in
-    let k = j .look .kept .1 .1 .1 .1 .1 .1 .1 .1 in
-    let l = start (with-cell j) .pre .1 .1 .1 .1 .0 in
-    omega (arith, opened c .cut .start, k .0, k .1 .0, l .2)
-
-mul-shortplaces : tie.Need-mul-shortplaces
-mul-shortplaces c =
-    let j = looked (c .before .before) in
-    let o = places-start (c .before .before) in
-    let g = start (with-cell j) .good in
-    omega (arith, j .look .kept .1 .1 .1 .1 .1 .1 .1 .1 .1 .0)
-
-sub-shortplaces : tie.Need-sub-shortplaces
-sub-shortplaces c = places-start (c .before .before)
-
-part-shortplaces-start : tie.Need-part-shortplaces-start
-part-shortplaces-start c = places-start (c .before .before .before)
-
--- Both tapes are sound; which of them is lent shows in what is drawn and counted.
-eight-rows-requires : tie.Need-eight-rows-requires
-eight-rows-requires c κs =
+eights-requires : tie.Need-eights-requires
+eights-requires c κs =
     let t = in-cut c in
     let j = looked t in
-    let k = with-cell j in
-    let p = start k .pre in
-    let l = p .1 .1 .1 .1 .0 in
-    let q = p .1 .1 .1 .1 .1 in
-    let w = j .look .kept .1 .1 .1 .1 .1 .1 .0 in
-    let short = open-level (p .0 .sound) (opened t) in
-    let side = ap (λ (q : Region). q .long) (made k .same) in (
-      search (short, p .0),
-      (
-        ready-again (p .1 .0) (j .look .kept .1 .1 .1 .1 .1 .0),
-        (
-          made k .ok,
-          (
-            (side, begins k),
-            (
-              (omega arith, omega arith, omega arith),
-              (q .0, cell-blank (k .cell-at .result) (made k .same) (opened t .same) (q .1)),
-            ),
-          ),
-        ),
-      ),
-    )
+    let p = start j .pre in
+    let l = p .lent in
+    let kept = j .look .kept .1 .1 .1 .1 in
+    let short = open-level (l .level) (opened t) in
+    record {
+      level = search short;
+      ready = ready-again (l .ready) (kept .0);
+      cell = p .ok;
+      side = p .side;
+      even = p .start;
+      room = omega (arith, l .marks, kept .1 .0);
+      second = l .words-second;
+      slots = p .size;
+      blank = same-blank (opened t .same) (p .blank);
+    }
 
 add-result : tie.Need-add-result
 add-result c =
     let u = visited c in
     let t = in-cut (u .before) in
-    let s = start (with-cell (looked t)) in
-    let w = s .pre .0 .sound in
-    omega (arith, sound-length w, open-fewer w (opened t), u .eight-rows .ensures .0 .bound)
+    let w = start (looked t) .pre .lent .level .sound in
+    omega (arith, sound-length w, open-fewer w (opened t), u .eights .ensures .0 .bound)
 
 same-length : tie.Need-same-length
 same-length c = search needs
@@ -162,10 +120,10 @@ same-length-3 c = search needs
 returns : tie.Need-returns
 returns c =
     let j = done c in
-    let k = with-cell j in (
-      done-visits flatBound 8 below8 (made k .same) (omega arith)
-          (done-of false _ _ _ _ _ _ _ _ _ _ (j .look .ensures .0) (c .before .seen .given .1)),
-      (start k .pre .1 .1 .1 .1 .1 .0, side-apart (k .cell-at .result) (made k .same) (j .look .ensures .1)),
+    let p = start j .pre in (
+      done-visits flatBound 8 below8 refl (omega arith)
+          (done-of false _ _ _ _ _ _ _ _ _ (j .look .ensures .0) (c .before .seen .given .1)),
+      (p .size, looked-apart (p .side) (j .look .ensures .1)),
     )
 
 same-length-4 : tie.Need-same-length-4
@@ -185,34 +143,17 @@ returns-2 c =
     let u = visited c in
     let t = in-cut (u .before) in
     let j = looked t in
-    let k = with-cell j in
-    let e = made k .same in (
-      open-rows 8 8 (start k .pre .0 .sound) (omega arith) (omega arith) refl (made k) (opened t) below8 (64 * 65)
-          (u .eight-rows .ensures .0),
-      (
-        u .eight-rows .ensures .1 .0,
-        apart-then (side-apart (k .cell-at .result) e (j .look .ensures .1))
-            (cell-apart (k .cell-at .result) e (u .eight-rows .ensures .1 .1)),
-      ),
+    let p = start j .pre in
+    let l = p .lent in (
+      open-children 8 8 (l .level .sound) (omega arith) (omega arith) (p .side) (l .ready .fault) (p .ok) (opened t)
+          below8 (64 * 65) (u .eights .ensures .0),
+      (u .eights .ensures .1 .0, apart-then (looked-apart (p .side) (j .look .ensures .1)) (u .eights .ensures .1 .1)),
     )
-
-part-shortplaces-end : tie.Need-part-shortplaces-end
-part-shortplaces-end c = search needs
-
-same-length-8 : tie.Need-same-length-8
-same-length-8 c = search needs
-
-same-length-9 : tie.Need-same-length-9
-same-length-9 c = search needs
-
-same-length-10 : tie.Need-same-length-10
-same-length-10 c = search needs
 
 pub visit-tile-spec : {M : Type 1} → statement M
 visit-tile-spec =
     tie.close
     (tie.spec
-    cell-at-requires
     look-requires
     enum-known-seen
     enum-known-seen-2
@@ -220,21 +161,14 @@ visit-tile-spec =
     sub-short
     part-short-start
     part-short-end
-    mul-shortplaces
-    sub-shortplaces
-    part-shortplaces-start
-    part-shortplaces-end
-    eight-rows-requires
+    eights-requires
     add-result
     same-length
     same-length-2
     same-length-3
-    same-length-4
     returns
+    same-length-4
     same-length-5
     same-length-6
     same-length-7
-    same-length-8
-    same-length-9
-    same-length-10
     returns-2)

@@ -194,7 +194,7 @@ enclosed-end : (t : ℕ) (c : enclosed-lts.Else1 (enclosed-calls t) (enclosed-at
     Here (a .text .now) (i .inner .given .0 .0 .at) (a .end)
 enclosed-end t c =
     let s = enclosed-start t (c .before .before .before .before .before .before) in
-    here _ _ _ (s .args .end) (c .before .peek .ensures) (c .if1 .left) (s .pre .1 .1)
+    here _ _ _ (s .args .end) (c .before .peek .ensures) (c .if1 .left) (omega (arith, s .pre .1 .most))
 
 enclosed-sum-requires : (t : ℕ) → enclosed-lts.Need-sum-requires (enclosed-calls t) (enclosed-at t) enclosed.Post
 enclosed-sum-requires t c κs = search needs
@@ -275,7 +275,10 @@ item-leaf-requires t c κs =
     let l = c .before .before in
     let s = item-start t (l .before .before) in
     let f = item-leaf t l in
-    (can-leaf _ _ (s .pre .1 .0) (omega (arith, f .low)) (omega (arith, s .good .0 .1)), f .small)
+    record {
+      write = can-leaf _ _ (s .pre .1 .room) (omega (arith, f .low)) (omega (arith, s .good .0 .1));
+      small = f .small;
+    }
 
 item-enum-known-at-2 : (t : ℕ) → item-lts.Need-enum-known-at-2 (item-calls t) (item-at t) item.Post
 item-enum-known-at-2 t c = search needs
@@ -302,8 +305,13 @@ item-one-requires t c κs =
     let on : a .c .at < n = omega (arith, o .opens .on) in
     let within : n ≤ length (a .text .now) = omega (arith, o .opens .within) in
     let less : 6 * (length (a .text .now) - n) + 5 < t =
-    falls-later _ (a .c .at) n t 5 0 (s .pre .0) on within (omega arith) in
-    (less, (room-inside n (s .pre .1 .0) (omega (arith, on)) within (e .if1 .left), follows-small _ _ (o .opcode)))
+    falls-later _ (a .c .at) n t 5 0 (s .pre .0) on within (omega arith) in (
+      less,
+      record {
+        room = room-inside n (s .pre .1 .room) (omega (arith, on)) within (e .if1 .left);
+        most = follows-small _ _ (o .opcode);
+      },
+    )
 
 item-enum-known-at-3 : (t : ℕ) → item-lts.Need-enum-known-at-3 (item-calls t) (item-at t) item.Post
 item-enum-known-at-3 t c = search needs
@@ -330,8 +338,13 @@ item-two-requires t c κs =
     let on : a .c .at < n = omega (arith, o .opens .on) in
     let within : n ≤ length (a .text .now) = omega (arith, o .opens .within) in
     let less : 6 * (length (a .text .now) - n) + 5 < t =
-    falls-later _ (a .c .at) n t 5 0 (s .pre .0) on within (omega arith) in
-    (less, (room-inside n (s .pre .1 .0) (omega (arith, on)) within (e .if2 .left), two-small (o .name) _ (o .opcode)))
+    falls-later _ (a .c .at) n t 5 0 (s .pre .0) on within (omega arith) in (
+      less,
+      record {
+        room = room-inside n (s .pre .1 .room) (omega (arith, on)) within (e .if2 .left);
+        most = two-small (o .name) _ (o .opcode);
+      },
+    )
 
 item-enum-known-at-4 : (t : ℕ) → item-lts.Need-enum-known-at-4 (item-calls t) (item-at t) item.Post
 item-enum-known-at-4 t c = search needs
@@ -354,7 +367,7 @@ item-returns-4 t c =
     let k = e .before .before in
     let s = item-start t (k .before .before) in
     let a = s .args in
-    let shallow : a .depth < 32 = omega (arith, s .pre .1 .0 .nest, e .if1 .left) in
+    let shallow : a .depth < 32 = omega (arith, s .pre .1 .room .nest, e .if1 .left) in
     one-item (a .text .now) (a .depth) (a .slot) (a .c) (a .list .now) (r .one .last .1 .0) (r .one .result) _ _ shallow
     (item-one t k) (r .one .ensures)
 
@@ -368,7 +381,7 @@ item-returns-5 t c =
     let k = e .before .before in
     let s = item-start t (k .before .before) in
     let a = s .args in
-    let shallow : a .depth < 32 = omega (arith, s .pre .1 .0 .nest, e .if2 .left) in
+    let shallow : a .depth < 32 = omega (arith, s .pre .1 .room .nest, e .if2 .left) in
     two-item (a .text .now) (a .depth) (a .slot) (a .c) (a .list .now) (r .two .last .1 .0) (r .two .result) _ _ shallow
     (item-two t k) (r .two .ensures)
 
@@ -407,7 +420,7 @@ one-operate-requires : (t : ℕ) → one-lts.Need-operate-requires (one-calls t)
 one-operate-requires t c κs =
     let e = c .before .before .before in
     let s = one-start t (e .before .before .before) in
-    can-write (s .args .c .at + 1) _ (s .pre .1 .0) (omega arith) (one-ended t e) (omega (arith, s .pre .1 .1))
+    can-write (s .args .c .at + 1) _ (s .pre .1 .room) (omega arith) (one-ended t e) (omega (arith, s .pre .1 .most))
     (omega (arith, s .good .0 .1))
 
 one-enum-known-s : (t : ℕ) → one-lts.Need-enum-known-s (one-calls t) (one-at t) one.Post
@@ -681,7 +694,7 @@ signed-item-requires t c κs =
     let b = k .skip .ensures in
     let less : 6 * (length (s .args .text .now) - k .skip .result) + 0 < t =
     falls-here _ (s .args .c .at) (k .skip .result) t 0 1 (s .pre .0) (b .from) (omega arith) in
-    (less, (room-from _ (s .pre .1) (b .from) (b .within), record { none = b .ends }))
+    (less, record { room = room-from _ (s .pre .1) (b .from) (b .within); front = record { none = b .ends } })
 
 signed-same-length : (t : ℕ) → signed-lts.Need-same-length (signed-calls t) (signed-at t) signed.Post
 signed-same-length t c = search needs
@@ -711,7 +724,7 @@ signed-item-requires-2 t c κs =
     let on : s .args .c .at ≤ b .skip2 .result = omega (arith, k .skip .ensures .from, f .from) in
     let less : 6 * (length (s .args .text .now) - b .skip2 .result) + 0 < t =
     falls-here _ (s .args .c .at) (b .skip2 .result) t 0 1 (s .pre .0) on (omega arith) in
-    (less, (room-from _ (s .pre .1) on (f .within), record { none = f .ends }))
+    (less, record { room = room-from _ (s .pre .1) on (f .within); front = record { none = f .ends } })
 
 signed-enum-known-right : (t : ℕ) → signed-lts.Need-enum-known-right (signed-calls t) (signed-at t) signed.Post
 signed-enum-known-right t c = search needs
@@ -952,7 +965,7 @@ two-room : (t : ℕ) (c : two-lts.After-first (two-calls t) (two-at t) two.Post)
 two-room t c =
     let s = two-start t (c .before .before .before) in
     let g = two-first t c in
-    room-right (s .args .c .at + 1) (c .first .given .0 .0 .at) (s .pre .1 .0) (omega arith) g (omega arith) (g .within)
+    room-right (s .args .c .at + 1) (c .first .given .0 .0 .at) (s .pre .1 .room) (omega arith) g (omega arith) (g .within)
 
 two-second : (t : ℕ) (c : two-lts.After-join-arg (two-calls t) (two-at t) two.Post)
     → let r = c .before .before in
@@ -990,7 +1003,7 @@ two-enclosed-requires-2 t c κs =
     let g = two-first t f in
     let less : 6 * (length (a .text .now) - n) + 4 < t =
     falls-later _ (a .c .at) n t 4 5 (s .pre .0) (omega (arith, got-on g)) (g .within) (omega arith) in
-    (less, (two-room t f, omega arith))
+    (less, record { room = two-room t f; most = omega arith })
 
 two-enum-known-second : (t : ℕ) → two-lts.Need-enum-known-second (two-calls t) (two-at t) two.Post
 two-enum-known-second t c = search needs
@@ -1000,7 +1013,7 @@ two-join-requires t c κs =
     let f = c .before .before .before .before .before .before .before .before in
     let s = two-start t (f .before .before .before) in
     can-write (f .first .given .0 .0 .at + 1) _ (two-room t f) (omega arith) (two-second t c)
-    (omega (arith, s .pre .1 .1)) (omega (arith, s .good .0 .1))
+    (omega (arith, s .pre .1 .most)) (omega (arith, s .good .0 .1))
 
 two-enum-known-s : (t : ℕ) → two-lts.Need-enum-known-s (two-calls t) (two-at t) two.Post
 two-enum-known-s t c = search needs

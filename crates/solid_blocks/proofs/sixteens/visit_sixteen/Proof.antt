@@ -1,14 +1,13 @@
 -- Done by the look, or cut and its children visited.
-use mathlib.Core.Path.{refl, ap}
+use mathlib.Core.Path.{refl}
 use mathlib.Core.Bool.{true}
-use Prim.Native.Nat.{_*_, _≤_}
+use Prim.Native.Nat.{_+_, _*_}
 use native.Mathlib.Omega.{arith}
 use lib.ListN.{length}
-use Rattle.rules.specs.Drawings.{Region, region}
-use Rattle.walk.specs.Cells.{CellOf, regionIn}
+use Rattle.walk.specs.Cells.{regionIn}
 use Rattle.walk.specs.Walks.{Opened}
-use Rattle.walk.proofs.CellLaws.{small}
-use Rattle.walk.proofs.LookLaws.{sound-length, done-of, open-of, done-visits, open-level, open-fewer, open-layers}
+use Rattle.walk.proofs.LookLaws.{sound-length, done-of, open-of, done-visits, open-level, open-fewer}
+use Rattle.walk.proofs.OpenLaws.{open-children}
 use Rattle.walk.proofs.Places.{ready-again}
 use Rattle.solid_blocks.specs.Sides.{below4}
 use borrow.Author.Needs.{needs}
@@ -16,67 +15,55 @@ use Rattle.solid_blocks.proofs.sixteens.visit_sixteen.Statement.{statem
 use Rattle.solid_blocks.proofs.sixteens.visit_sixteen.Tie as tie
 
 -- The places: the start, after the look, the arm of a cut, the call for its children, and after it.
-abbrev begun : tie.After-cell-at → tie.Start
-begun c = c .before .before .before .before .before .before .before .before .before .before
-
-abbrev with-cell : tie.After-look → tie.After-cell-at
-with-cell c = c .before .before .before .before .before .before
+abbrev begun : tie.After-slice-known4 → tie.Start
+begun c = c .before .before .before .before .before .before
 
 abbrev start : tie.After-look → tie.Start
-start c = begun (with-cell c)
+start c = begun (c .before .before .before .before .before)
 
 abbrev looked : tie.After-known-told2 → tie.After-look
-looked c = c .before .before .before .before .before .before .before .before .before .before .before
+looked c = c .before .before .before .before .before .before .before .before .before
 
-abbrev in-cut : tie.After-four-layers-arg4 → tie.After-known-told2
-in-cut c = c .before .before .before .before .before .before .before .before
+abbrev in-cut : tie.After-fours-arg3 → tie.After-known-told2
+in-cut c = c .before .before .before .before .before
 
-abbrev visited : tie.After-slice-known14 → tie.After-four-layers
-visited c = c .before .before .before .before .before .before .before .before
-
-abbrev made-cell : tie.After-look-arg4 → tie.After-cell-at
-made-cell c = c .before .before .before .before .before
+abbrev visited : tie.After-slice-known10 → tie.After-fours
+visited c = c .before .before .before .before .before .before
 
 abbrev done : tie.After-known-told → tie.After-look
-done c = c .before .before .before .before .before .before .before .before .before .before .before
+done c = c .before .before .before .before .before .before .before .before .before
 
-abbrev made-room : tie.After-look-arg4 → tie.After-mark-room
-made-room c = c .before .before .before .before
-
--- What is known at them.
-made : (c : tie.After-look)
-    → let a = start c .args in
-    CellOf (a .grid .depth) (a .grid) (region (a .x) (a .y) (a .z) 16) (with-cell c .cell-at .result)
-made c = with-cell c .cell-at .ensures
+abbrev made-room : tie.After-look-arg3 → tie.After-mark-room
+made-room c = c .before .before .before
 
 opened : (c : tie.After-known-told2)
     → let j = looked c in
     let a = start j .args in
-    let now = j .look .last .1 .1 .1 .1 .1 in
-    Opened true (a .whole .now) (a .code .now) (a .places .now) (a .grid) (regionIn (with-cell j .cell-at .result)) (a .picture .now)
-    (now .0) (now .1 .0) (now .1 .1 .1 .0) (now .1 .1 .1 .1 .0) (c .before .seen2 .given .0 .0)
-opened c = open-of true _ _ _ _ _ _ _ _ _ _ (looked c .look .ensures) (c .before .seen2 .given .1)
-
-cell-at-requires : tie.Need-cell-at-requires
-cell-at-requires c κs =
-    let s = c .before .before .before .before .before .before .before .before .before in
-    (small true _ (s .pre .1 .0 .fault), (s .pre .1 .1 .0, (omega arith, omega arith)))
+    let now = j .look .last .1 .1 .1 .1 in
+    Opened true (a .whole .now) (a .code .now) (a .grid) (regionIn (a .cell)) (a .picture .now)
+    (now .0) (length (a .whole .now) + made-room (j .before) .mark-room .result) (now .1 .0)
+    (now .1 .1 .1 .0) (c .before .seen2 .given .0 .0)
+opened c = open-of true _ _ _ _ _ _ _ _ _ (looked c .look .ensures) (c .before .seen2 .given .1)
 
 mark-room-requires : tie.Need-mark-room-requires
-mark-room-requires c κs = begun c .pre .0 .kept .kept .within
+mark-room-requires c κs = begun c .pre .level .kept .kept .within
 
 add-base : tie.Need-add-base
 add-base c =
-    let w = begun (c .before) .pre .0 .kept .kept .within in
+    let w = begun (c .before) .pre .level .kept .kept .within in
     omega (arith, c .mark-room .ensures)
 
 look-requires : tie.Need-look-requires
 look-requires c κs =
-    let made = made-cell c in
-    let s = begun made in
-    let r = s .pre .1 .1 .1 in
+    let p = begun (made-room c .before) .pre in
     let m = made-room c .mark-room .ensures in
-    (s .pre .0, (s .pre .1 .0, (made .cell-at .ensures .ok, ((omega arith, omega arith), (omega arith, omega arith)))))
+    record {
+      level = p .level;
+      ready = p .ready;
+      cell = p .cell;
+      marks = record { behind = omega arith; within = omega (arith, m, p .room) };
+      words = p .second;
+    }
 
 enum-known-seen : tie.Need-enum-known-seen
 enum-known-seen c = search needs
@@ -89,7 +76,7 @@ mul-short c =
     let o = opened c .cut .start in
     let j = looked c in
     let g = start j .good in
-    omega (arith, j .look .kept .1 .1 .1 .1 .1 .1 .1 .1 .0)
+    omega (arith, j .look .kept .1 .1 .1 .1 .1 .1 .1 .0)
 
 sub-short : tie.Need-sub-short
 sub-short c = opened c .cut .start
@@ -100,49 +87,29 @@ part-short-start c = opened (c .before) .cut .start
 part-short-end : tie.Need-part-short-end
 part-short-end c = search needs
 
--- The places are as many as the words.
-places-start : (c : tie.After-known-told2)
-    → c .before .seen2 .given .0 .0 ≤ length (looked c .look .last .1 .1 .1 .1 .1 .1 .1 .1 .1 .0)
-places-start c =
-    let j = looked c in
-    let k = j .look .kept .1 .1 .1 .1 .1 .1 .1 .1 in
-    let l = start j .pre .1 .1 .1 in
-    omega (arith, opened c .cut .start, k .0, k .1 .0, l .2)
-
-mul-shortplaces : tie.Need-mul-shortplaces
-mul-shortplaces c =
-    let j = looked (c .before .before) in
-    let o = places-start (c .before .before) in
-    let g = start j .good in
-    let l = start j .pre .1 .1 .1 in
-    omega (arith, j .look .kept .1 .1 .1 .1 .1 .1 .1 .1 .1 .0)
-
-sub-shortplaces : tie.Need-sub-shortplaces
-sub-shortplaces c = places-start (c .before .before)
-
-part-shortplaces-start : tie.Need-part-shortplaces-start
-part-shortplaces-start c = places-start (c .before .before .before)
-
 -- Both tapes are sound; which of them is lent shows in what is drawn and counted.
-four-layers-requires : tie.Need-four-layers-requires
-four-layers-requires c κs =
+fours-requires : tie.Need-fours-requires
+fours-requires c κs =
     let t = in-cut c in
     let j = looked t in
-    let s = start j in
-    let k = made j in
-    let r = s .pre .1 .1 .1 in
-    let w = j .look .kept .1 .1 .1 .1 .1 .1 .0 in
-    let short = open-level (s .pre .0 .sound) (opened t) in
-    let again = ready-again (s .pre .1 .0) (j .look .kept .1 .1 .1 .1 .1 .0) in
-    let side = ap (λ (q : Region). q .long) (k .same) in
-    (search (short, s .pre .0), (again, (k .ok, (side, (omega arith, omega arith, omega arith)))))
+    let p = start j .pre in
+    let kept = j .look .kept .1 .1 .1 .1 in
+    let short = open-level (p .level) (opened t) in
+    record {
+      level = search (short, p .level);
+      ready = ready-again (p .ready) (kept .0);
+      cell = p .cell;
+      side = p .side;
+      room = omega (arith, p .room, kept .1 .0);
+      third = p .third;
+    }
 
 add-result : tie.Need-add-result
 add-result c =
     let u = visited c in
     let t = in-cut (u .before) in
-    let s = start (looked t) in
-    omega (arith, sound-length (s .pre .0 .sound), open-fewer (s .pre .0 .sound) (opened t), u .four-layers .ensures .bound)
+    let s = start (looked t) .pre .level .sound in
+    omega (arith, sound-length s, open-fewer s (opened t), u .fours .ensures .bound)
 
 same-length : tie.Need-same-length
 same-length c = search needs
@@ -156,8 +123,8 @@ same-length-3 c = search needs
 returns : tie.Need-returns
 returns c =
     let j = done c in
-    done-visits 4161 4 below4 (made j .same) (omega arith)
-    (done-of true _ _ _ _ _ _ _ _ _ _ (j .look .ensures) (c .before .seen .given .1))
+    done-visits 4161 4 below4 refl (omega arith)
+    (done-of true _ _ _ _ _ _ _ _ _ (j .look .ensures) (c .before .seen .given .1))
 
 same-length-4 : tie.Need-same-length-4
 same-length-4 c = search needs
@@ -176,27 +143,14 @@ returns-2 c =
     let u = visited c in
     let t = in-cut (u .before) in
     let j = looked t in
-    let s = start j in
-    open-layers 4 4 (s .pre .0 .sound) (omega arith) (omega arith) refl (made j) (s .pre .1 .0 .fault) (opened t)
-    below4 (64 * 65) (u .four-layers .ensures)
-
-part-shortplaces-end : tie.Need-part-shortplaces-end
-part-shortplaces-end c = search needs
-
-same-length-8 : tie.Need-same-length-8
-same-length-8 c = search needs
-
-same-length-9 : tie.Need-same-length-9
-same-length-9 c = search needs
-
-same-length-10 : tie.Need-same-length-10
-same-length-10 c = search needs
+    let p = start j .pre in
+    open-children 4 4 (p .level .sound) (omega arith) (omega arith) (p .side) (p .ready .fault) (p .cell) (opened t)
+    below4 (64 * 65) (u .fours .ensures)
 
 pub visit-sixteen-spec : {M : Type 1} → statement M
 visit-sixteen-spec =
     tie.close
     (tie.spec
-    cell-at-requires
     mark-room-requires
     add-base
     look-requires
@@ -206,21 +160,14 @@ visit-sixteen-spec =
     sub-short
     part-short-start
     part-short-end
-    mul-shortplaces
-    sub-shortplaces
-    part-shortplaces-start
-    part-shortplaces-end
-    four-layers-requires
+    fours-requires
     add-result
     same-length
     same-length-2
     same-length-3
-    same-length-4
     returns
+    same-length-4
     same-length-5
     same-length-6
     same-length-7
-    same-length-8
-    same-length-9
-    same-length-10
     returns-2)

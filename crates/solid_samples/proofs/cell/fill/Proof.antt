@@ -21,13 +21,13 @@ cast-rows : tie.Need-cast-rows
 cast-rows c = search needs
 
 mul-from : tie.Need-mul-from
-mul-from c = omega (arith, cell-index _ _ (start c .pre .1) (start c .pre .0 .fault))
+mul-from c = omega (arith, cell-index _ _ (start c .pre .cell) (start c .pre .ready .fault))
 
 add-from : tie.Need-add-from
-add-from c = let s = start (c .before) in omega (arith, cell-index _ _ (s .pre .1) (s .pre .0 .fault))
+add-from c = let s = start (c .before) in omega (arith, cell-index _ _ (s .pre .cell) (s .pre .ready .fault))
 
 cast-from : tie.Need-cast-from
-cast-from c = let s = start (c .before) in omega (arith, cell-index _ _ (s .pre .1) (s .pre .0 .fault))
+cast-from c = let s = start (c .before) in omega (arith, cell-index _ _ (s .pre .cell) (s .pre .ready .fault))
 
 sub-wide : tie.Need-sub-wide
 sub-wide c = search needs
@@ -41,14 +41,14 @@ cast-raise-rows c = search needs
 cast-raise-rows-2 : tie.Need-cast-raise-rows-2
 cast-raise-rows-2 c =
     let s = at-call c in
-    let d = small true _ (s .pre .0 .fault) in
-    let z = s .pre .1 .zs in
+    let d = small true _ (s .pre .ready .fault) in
+    let z = s .pre .cell .zs in
     omega arith
 
 raise-rows-requires : tie.Need-raise-rows-requires
 raise-rows-requires c κs =
     let s = at-call c in
-    cell-rows _ _ (s .pre .1) _ (s .pre .0)
+    cell-rows _ _ (s .pre .cell) _ (s .pre .ready)
 
 same-length : tie.Need-same-length
 same-length c = search needs
@@ -56,7 +56,7 @@ same-length c = search needs
 returns : tie.Need-returns
 returns c =
     let s = at-call (c .before .before .before) in
-    cell-fills _ _ (s .pre .1) (s .pre .0 .fault) _ _ (c .before .before .raise-rows .ensures)
+    cell-fills _ _ (s .pre .cell) (s .pre .ready .fault) _ _ (c .before .before .raise-rows .ensures)
 
 pub fill-spec : {M : Type 1} → statement M
 fill-spec =

@@ -21,13 +21,13 @@ cast-rows : tie.Need-cast-rows
 cast-rows c = search needs
 
 mul-from : tie.Need-mul-from
-mul-from c = omega (arith, cell-index _ _ (start c .pre .1) (start c .pre .0 .fault))
+mul-from c = omega (arith, cell-index _ _ (start c .pre .cell) (start c .pre .ready .fault))
 
 add-from : tie.Need-add-from
-add-from c = let s = start (c .before) in omega (arith, cell-index _ _ (s .pre .1) (s .pre .0 .fault))
+add-from c = let s = start (c .before) in omega (arith, cell-index _ _ (s .pre .cell) (s .pre .ready .fault))
 
 cast-from : tie.Need-cast-from
-cast-from c = let s = start (c .before) in omega (arith, cell-index _ _ (s .pre .1) (s .pre .0 .fault))
+cast-from c = let s = start (c .before) in omega (arith, cell-index _ _ (s .pre .cell) (s .pre .ready .fault))
 
 sub-wide : tie.Need-sub-wide
 sub-wide c = search needs
@@ -38,8 +38,8 @@ cast-wide c = search needs
 cast-top : tie.Need-cast-top
 cast-top c =
     let s = start (c .before .before .before) in
-    let d = small true _ (s .pre .0 .fault) in
-    let z = s .pre .1 .zs in
+    let d = small true _ (s .pre .ready .fault) in
+    let z = s .pre .cell .zs in
     omega arith
 
 cast-rows-high : tie.Need-cast-rows-high
@@ -48,12 +48,12 @@ cast-rows-high c = search needs
 rows-high-requires : tie.Need-rows-high-requires
 rows-high-requires c κs =
     let s = at-call c in
-    cell-rows _ _ (s .pre .1) _ (s .pre .0)
+    cell-rows _ _ (s .pre .cell) _ (s .pre .ready)
 
 returns : tie.Need-returns
 returns c =
     let s = at-call (c .before) in
-    cell-hidden _ _ (s .pre .1) (s .pre .0 .fault) _ _ (c .rows-high .ensures)
+    cell-hidden _ _ (s .pre .cell) (s .pre .ready .fault) _ _ (c .rows-high .ensures)
 
 pub is-hidden-spec : {M : Type 1} → statement M
 is-hidden-spec =

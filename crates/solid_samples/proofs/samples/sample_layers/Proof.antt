@@ -7,7 +7,8 @@ use Rattle.code.specs.Runs.{Lent}
 use Rattle.code.proofs.RunLaws.{fresh-slots}
 use Rattle.walk.proofs.LookLaws.{sound-length}
 use Rattle.walk.proofs.Loops.{AtLayer, layers-begin, layers-again, layers-done}
-use Rattle.walk.proofs.Places.{down-in, down-sum, ready-again}
+use Rattle.walk.proofs.Places.{down-in, down-sum}
+use Rattle.solid_samples.proofs.SampleLaws.{samples-again}
 use Rattle.solid_samples.proofs.samples.sample_layers.Statement.{statement}
 use Rattle.solid_samples.proofs.samples.sample_layers.Tie as tie
 
@@ -41,8 +42,11 @@ past c = c .before .before
 
 loop-holds : tie.Need-loop-holds Inv-loop μ-loop
 loop-holds c =
-    let p = begun c .pre .1 .1 in
-    (layers-begin _ _ (omega arith) (omega arith) (omega arith) (omega arith) (omega arith) (omega arith), fresh-slots)
+    let p = begun c .pre in
+    let z = p .cell .zs in (
+      layers-begin _ _ (omega arith) (omega arith) (omega arith) (omega arith) (omega arith) (omega (arith, p .side)),
+      fresh-slots,
+    )
 
 sub-z : tie.Need-sub-z Inv-loop μ-loop
 sub-z c = down-in (at-test c .loop .inv .0 .place) (c .if1 .taken) .0
@@ -51,17 +55,18 @@ sample-rows-requires : tie.Need-sample-rows-requires Inv-loop μ-loop
 sample-rows-requires c κs =
     let t = in-turn c in
     let i = at-test t .loop .inv in
-    let s = start (at-test t) in
-    let p = s .pre .1 .1 in
-    let again = ready-again (s .pre .1 .0) (i .0 .place .size) in
-    (s .pre .0, (again, (p .0, ((p .1, down-in (i .0 .place) (t .if1 .taken) .1), i .1))))
+    record {
+      all = samples-again (start (at-test t) .pre) (i .0 .place .size);
+      z-in = down-in (i .0 .place) (t .if1 .taken) .1;
+      slots = i .1;
+    }
 
 add-count : tie.Need-add-count Inv-loop μ-loop
 add-count c =
     let t = in-turn (called c .before) in
     let l = at-test t in
     let sum = down-sum (l .loop .inv .0 .place) (t .if1 .taken) (called c .sample-rows .ensures .0 .bound) in
-    omega (arith, sound-length (start l .pre .0), sum)
+    omega (arith, sound-length (start l .pre .sound), sum)
 
 loop-less : tie.Need-loop-less Inv-loop μ-loop
 loop-less c =

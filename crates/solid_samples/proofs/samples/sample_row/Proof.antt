@@ -39,32 +39,34 @@ past c = c .before .before
 
 loop-holds : tie.Need-loop-holds Inv-loop μ-loop
 loop-holds c =
-    let p = begun c .pre .1 .1 in
-    (row-begins _ (omega arith) (omega arith), p .1 .1)
+    let p = begun c .pre in
+    (row-begins _ (omega arith) (omega (arith, p .all .cell .xs, p .all .side)), p .slots)
 
 visit-sample-requires : tie.Need-visit-sample-requires Inv-loop μ-loop
 visit-sample-requires c κs =
     let t = in-turn c in
     let i = at-test t .loop .inv in
-    let s = start (at-test t) in
-    let p = s .pre .1 .1 in
-    let again = ready-again (s .pre .1 .0) (i .0 .place .size) in
-    let inside = child-in _ _ _ (p .0) (t .if1 .taken) (p .1 .0 .1) (p .1 .0 .2) in
-    (s .pre .0, (again, (inside, i .1)))
+    let p = start (at-test t) .pre in
+    record {
+      sound = p .all .sound;
+      ready = ready-again (p .all .ready) (i .0 .place .size);
+      place = child-in _ _ _ (p .all .cell) (t .if1 .taken) (p .y-in) (p .z-in);
+      slots = i .1;
+    }
 
 add-count : tie.Need-add-count Inv-loop μ-loop
 add-count c =
     let t = in-turn (called c .before) in
     let l = at-test t in
     let sum = up-sum (l .loop .inv .0 .place) (t .if1 .taken) (called c .visit-sample .ensures .0 .bound) in
-    omega (arith, sound-length (start l .pre .0), sum)
+    omega (arith, sound-length (start l .pre .all .sound), sum)
 
 add-x : tie.Need-add-x Inv-loop μ-loop
 add-x c =
     let t = in-turn (called c .before) in
-    let p = start (at-test t) .pre .1 in
-    let d = small true _ (p .0 .fault) in
-    omega (arith, t .if1 .taken)
+    let p = start (at-test t) .pre .all in
+    let d = small true _ (p .ready .fault) in
+    omega (arith, t .if1 .taken, p .cell .xs)
 
 loop-less : tie.Need-loop-less Inv-loop μ-loop
 loop-less c = omega (arith, in-turn (called c .before) .if1 .taken)

@@ -7,7 +7,8 @@ use Rattle.code.specs.Runs.{Lent}
 use Rattle.walk.proofs.CellLaws.{small}
 use Rattle.walk.proofs.LookLaws.{sound-length}
 use Rattle.walk.proofs.Loops.{AtRow, rows-begin, rows-again, rows-done}
-use Rattle.walk.proofs.Places.{up-sum, ready-again}
+use Rattle.walk.proofs.Places.{up-sum}
+use Rattle.solid_samples.proofs.SampleLaws.{samples-again}
 use Rattle.solid_samples.proofs.samples.sample_rows.Statement.{statement}
 use Rattle.solid_samples.proofs.samples.sample_rows.Tie as tie
 
@@ -40,31 +41,34 @@ past c = c .before .before
 
 loop-holds : tie.Need-loop-holds Inv-loop μ-loop
 loop-holds c =
-    let p = begun c .pre .1 .1 in
-    (rows-begin _ (omega arith) (omega arith), p .1 .1)
+    let p = begun c .pre in
+    (rows-begin _ (omega arith) (omega (arith, p .all .cell .ys, p .all .side)), p .slots)
 
 sample-row-requires : tie.Need-sample-row-requires Inv-loop μ-loop
 sample-row-requires c κs =
     let t = in-turn c in
     let i = at-test t .loop .inv in
-    let s = start (at-test t) in
-    let p = s .pre .1 .1 in
-    let again = ready-again (s .pre .1 .0) (i .0 .place .size) in
-    (s .pre .0, (again, (p .0, ((p .1 .0 .0, t .if1 .taken, p .1 .0 .1), i .1))))
+    let p = start (at-test t) .pre in
+    record {
+      all = samples-again (p .all) (i .0 .place .size);
+      y-in = t .if1 .taken;
+      z-in = p .z-in;
+      slots = i .1;
+    }
 
 add-count : tie.Need-add-count Inv-loop μ-loop
 add-count c =
     let t = in-turn (called c .before) in
     let l = at-test t in
     let sum = up-sum (l .loop .inv .0 .place) (t .if1 .taken) (called c .sample-row .ensures .0 .bound) in
-    omega (arith, sound-length (start l .pre .0), sum)
+    omega (arith, sound-length (start l .pre .all .sound), sum)
 
 add-y : tie.Need-add-y Inv-loop μ-loop
 add-y c =
     let t = in-turn (called c .before) in
-    let p = start (at-test t) .pre .1 in
-    let d = small true _ (p .0 .fault) in
-    omega (arith, t .if1 .taken)
+    let p = start (at-test t) .pre .all in
+    let d = small true _ (p .ready .fault) in
+    omega (arith, t .if1 .taken, p .cell .ys)
 
 loop-less : tie.Need-loop-less Inv-loop μ-loop
 loop-less c = omega (arith, in-turn (called c .before) .if1 .taken)

@@ -62,7 +62,7 @@ made c =
     let u = y .before .before .before .sample in
     let v = y .sample2 in
     let w = c .sample3 in
-    sample-same _ _ _ _ (s .pre .1 .1 .0) (s .pre .1 .0 .fault) _
+    sample-same _ _ _ _ (s .pre .place) (s .pre .ready .fault) _
     (back w32 _ (u .ok) (u .ensures ∙ at-words _ (f .xorigin) (f .xstep)))
     (back w32 _ (v .ok) (v .ensures ∙ at-words _ (f .yorigin) (f .ystep)))
     (back w32 _ (w .ok) (w .ensures ∙ at-words _ (f .zorigin) (f .zstep)))
@@ -73,13 +73,13 @@ low : (c : tie.After-sample3)
 low c = omega (arith, to-z (c .before) .before .if1 .left)
 
 mul-at : tie.Need-mul-at
-mul-at c = let s = begun c in omega (arith, pixel-most _ _ _ _ (s .pre .1 .1 .0) (s .pre .1 .0 .fault))
+mul-at c = let s = begun c in omega (arith, pixel-most _ _ _ _ (s .pre .place) (s .pre .ready .fault))
 
 add-at : tie.Need-add-at
-add-at c = let s = begun c in omega (arith, pixel-most _ _ _ _ (s .pre .1 .1 .0) (s .pre .1 .0 .fault))
+add-at c = let s = begun c in omega (arith, pixel-most _ _ _ _ (s .pre .place) (s .pre .ready .fault))
 
 cast-at : tie.Need-cast-at
-cast-at c = let s = begun c in omega (arith, pixel-most _ _ _ _ (s .pre .1 .1 .0) (s .pre .1 .0 .fault))
+cast-at c = let s = begun c in omega (arith, pixel-most _ _ _ _ (s .pre .place) (s .pre .ready .fault))
 
 add-height : tie.Need-add-height
 add-height c = search needs
@@ -87,55 +87,56 @@ add-height c = search needs
 cast-height : tie.Need-cast-height
 cast-height c =
     let s = begun c in
-    let d = small true _ (s .pre .1 .0 .fault) in
-    let h = s .pre .1 .1 .0 .z-in in
+    let d = small true _ (s .pre .ready .fault) in
+    let h = s .pre .place .z-in in
     omega arith
 
 mul-if1 : tie.Need-mul-if1
-mul-if1 c = let s = begun c in omega (arith, pixel-most _ _ _ _ (s .pre .1 .1 .0) (s .pre .1 .0 .fault))
+mul-if1 c = let s = begun c in omega (arith, pixel-most _ _ _ _ (s .pre .place) (s .pre .ready .fault))
 
 slice-read-if1 : tie.Need-slice-read-if1
-slice-read-if1 c = let s = at-test c in pixel-in _ _ _ _ (s .pre .1 .1 .0) (s .pre .1 .0 .fault) (s .pre .1 .0)
+slice-read-if1 c = let s = at-test c in pixel-in _ _ _ _ (s .pre .place) (s .pre .ready .fault) (s .pre .ready)
 
 returns : tie.Need-returns
 returns c =
     let s = at-test (c .before) in
-    (sample-hidden _ _ _ _ (s .pre .1 .1 .0) (s .pre .1 .0) (s .pre .0) (omega arith), s .pre .1 .1 .1)
+    (sample-hidden _ _ _ _ (s .pre .place) (s .pre .ready) (s .pre .sound) (omega arith), s .pre .slots)
 
 sample-requires : tie.Need-sample-requires
 sample-requires c κs =
     let t = c .before in
     let f = told t in
-    rw (at-words _ (f .xorigin) (f .xstep)) (x-value _ _ _ _ (seen t .pre .1 .1 .0) (seen t .pre .1 .0 .fault))
+    rw (at-words _ (f .xorigin) (f .xstep)) (x-value _ _ _ _ (seen t .pre .place) (seen t .pre .ready .fault))
 
 sample-requires-2 : tie.Need-sample-requires-2
 sample-requires-2 c κs =
     let t = to-y c in
     let f = told t in
-    rw (at-words _ (f .yorigin) (f .ystep)) (y-value _ _ _ _ (seen t .pre .1 .1 .0) (seen t .pre .1 .0 .fault))
+    rw (at-words _ (f .yorigin) (f .ystep)) (y-value _ _ _ _ (seen t .pre .place) (seen t .pre .ready .fault))
 
 sample-requires-3 : tie.Need-sample-requires-3
 sample-requires-3 c κs =
     let t = to-z c in
     let f = told t in
-    let p = seen t .pre .1 in
-    rw (at-words _ (f .zorigin) (f .zstep)) (z-value _ _ _ _ (p .1 .0) (p .0 .fault))
+    let p = seen t .pre in
+    rw (at-words _ (f .zorigin) (f .zstep)) (z-value _ _ _ _ (p .place) (p .ready .fault))
 
 run-values-requires : tie.Need-run-values-requires
 run-values-requires c κs =
     let t = c .before in
     let p = start t .pre in (
-      sound-runs (p .0),
-      (sample-ok _ _ _ _ (p .1 .1 .0) (p .1 .0 .fault) _ (made t), p .1 .1 .1),
+      sound-runs (p .sound),
+      (sample-ok _ _ _ _ (p .place) (p .ready .fault) _ (made t), p .slots),
     )
 
 mul-picture : tie.Need-mul-picture
 mul-picture c =
-    let s = start (c .before .before .before) in omega (arith, pixel-most _ _ _ _ (s .pre .1 .1 .0) (s .pre .1 .0 .fault))
+    let p = start (c .before .before .before) .pre in
+    omega (arith, pixel-most _ _ _ _ (p .place) (p .ready .fault))
 
 slice-write-picture : tie.Need-slice-write-picture
 slice-write-picture c =
-    let s = start (c .before .before .before) in pixel-in _ _ _ _ (s .pre .1 .1 .0) (s .pre .1 .0 .fault) (s .pre .1 .0)
+    let s = start (c .before .before .before) in pixel-in _ _ _ _ (s .pre .place) (s .pre .ready .fault) (s .pre .ready)
 
 same-length : tie.Need-same-length
 same-length c = search needs
@@ -144,9 +145,9 @@ returns-2 : tie.Need-returns-2
 returns-2 c =
     let v = c .before .run-values in
     let t = c .before .before .before in
-    let s = start t in
+    let p = start t .pre in
     let negative = sign (v .result) (v .result) _ (record { sfits = v .ok }) (c .if2 .taken) refl in (
-      sample-fills _ _ _ _ (s .pre .1 .1 .0) (s .pre .1 .0) (s .pre .0) (low t) _ (made t) _ (v .ensures .0) negative _
+      sample-fills _ _ _ _ (p .place) (p .ready) (p .sound) (low t) _ (made t) _ (v .ensures .0) negative _
           refl,
       v .ensures .1,
     )
@@ -155,9 +156,9 @@ returns-3 : tie.Need-returns-3
 returns-3 c =
     let v = c .before .run-values in
     let t = c .before .before .before in
-    let s = start t in
+    let p = start t .pre in
     let negative = sign (v .result) (v .result) _ (record { sfits = v .ok }) (c .if2 .left) refl in (
-      sample-skips _ _ _ _ (s .pre .1 .1 .0) (s .pre .1 .0) (s .pre .0) (low t) _ (made t) _ (v .ensures .0) negative,
+      sample-skips _ _ _ _ (p .place) (p .ready) (p .sound) (low t) _ (made t) _ (v .ensures .0) negative,
       v .ensures .1,
     )
 

@@ -13,36 +13,42 @@ use Rattle.solid_tiles.proofs.tiles.tile_solid.Tie as tie
 
 -- The places: the start, once the picture is clear, and that, once the cell is made.
 abbrev start : tie.After-clear → tie.Start
-start c = c .before .before .before .before .before .before .before .before .before .before .before .before
+start c = c .before .before .before .before .before .before .before .before
 
 abbrev cleared : tie.After-cell-at → tie.After-clear
 cleared c = c .before .before .before
 
-abbrev lent : tie.After-tiles-in-arg9 → tie.After-cell-at
-lent c = c .before .before .before .before .before .before .before .before .before
+abbrev lent : tie.After-tiles-arg5 → tie.After-cell-at
+lent c = c .before .before .before .before .before
 
-abbrev drawn : tie.After-slice-known19 → tie.After-tiles-in
-drawn c = c .before .before .before .before .before .before .before .before .before .before .before .before .before .before .before .before .before .before
+abbrev drawn : tie.After-slice-known11 → tie.After-tiles
+drawn c = c .before .before .before .before .before .before .before .before .before .before
 
 clear-requires : tie.Need-clear-requires
 clear-requires c κs = search needs
 
 cell-at-requires : tie.Need-cell-at-requires
 cell-at-requires c κs =
-    let e = start (c .before .before) .pre .1 .0 .fault in
-    (small true _ e, (first-in true _ e, (omega arith, omega arith)))
+    let e = start (c .before .before) .pre .ready .fault in
+    record { small = small true _ e; place = first-in true _ e; some = omega arith; few = omega arith }
 
-tiles-in-requires : tie.Need-tiles-in-requires
-tiles-in-requires c κs =
+tiles-requires : tie.Need-tiles-requires
+tiles-requires c κs =
     let made = lent c in
     let k = made .cell-at .ensures in
-    let s = start (cleared made) in (
-      s .pre .0,
-      (
-        ready-again (s .pre .1 .0) (cleared made .clear .kept .0),
-        (k .ok, (ap (λ (q : Region). q .long) (k .same), (s .pre .1 .1 .0, s .pre .1 .1 .1))),
-      ),
-    )
+    let p = start (cleared made) .pre in
+    record {
+      tile = record {
+        level = p .level;
+        ready = ready-again (p .ready) (cleared made .clear .kept .0);
+        room = p .room;
+        first = p .first;
+        second = p .second;
+        third = p .third;
+      };
+      cell = k .ok;
+      side = ap (λ (q : Region). q .long) (k .same);
+    }
 
 same-length : tie.Need-same-length
 same-length c = search needs
@@ -54,8 +60,8 @@ returns : tie.Need-returns
 returns c =
     let u = drawn c in
     let made = lent (u .before) in
-    let r = start (cleared made) .pre .1 .0 in
-    folds-walked (made .cell-at .ensures) (r .fault) (u .tiles-in .ensures)
+    let r = start (cleared made) .pre .ready in
+    folds-walked (made .cell-at .ensures) (r .fault) (u .tiles .ensures)
     (cleared made .clear .ensures ∙ ap (λ n. replicate n 0) (r .size))
 
 same-length-3 : tie.Need-same-length-3
@@ -67,32 +73,16 @@ same-length-4 c = search needs
 same-length-5 : tie.Need-same-length-5
 same-length-5 c = search needs
 
-same-length-6 : tie.Need-same-length-6
-same-length-6 c = search needs
-
-same-length-7 : tie.Need-same-length-7
-same-length-7 c = search needs
-
-same-length-8 : tie.Need-same-length-8
-same-length-8 c = search needs
-
-same-length-9 : tie.Need-same-length-9
-same-length-9 c = search needs
-
 pub tile-solid-spec : {M : Type 1} → statement M
 tile-solid-spec =
     tie.close
     (tie.spec
     clear-requires
     cell-at-requires
-    tiles-in-requires
+    tiles-requires
     same-length
     same-length-2
     same-length-3
     same-length-4
     same-length-5
-    same-length-6
-    same-length-7
-    same-length-8
-    same-length-9
     returns)

@@ -30,12 +30,12 @@ returns c =
     let after-x = after-y .before in
     let start = after-x .before in
     let a = start .args in
-    let p = start .pre .1 in
+    let p = start .pre in
     record {
       ok = record {
-        xs = ends (a .grid .width) _ (a .side) _ (after-x .lesser .ensures) (p .0 .x-in) (p .1 .0);
-        ys = ends (a .grid .height) _ (a .side) _ (after-y .lesser2 .ensures) (p .0 .y-in) (p .1 .0);
-        zs = ends (a .layers) _ (a .side) _ (c .lesser3 .ensures) (p .0 .z-in) (p .1 .0);
+        xs = ends (a .grid .width) _ (a .side) _ (after-x .lesser .ensures) (p .place .x-in) (p .some);
+        ys = ends (a .grid .height) _ (a .side) _ (after-y .lesser2 .ensures) (p .place .y-in) (p .some);
+        zs = ends (a .layers) _ (a .side) _ (c .lesser3 .ensures) (p .place .z-in) (p .some);
       };
       same = refl;
     }

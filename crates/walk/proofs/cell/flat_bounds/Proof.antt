@@ -19,14 +19,14 @@ span-requires : tie.Need-span-requires
 span-requires c κs =
     let f = told (c .before) in
     let p = c .before .before .pre in
-    span-words (f .xorigin) (f .xstep) (x-span false _ _ (p .1) (p .0))
+    span-words (f .xorigin) (f .xstep) (x-span false _ _ (p .ok) (p .fault))
 
 span-requires-2 : tie.Need-span-requires-2
 span-requires-2 c κs =
     let t = with-x (c .before .before) in
     let f = told t in
     let p = t .before .pre in
-    span-words (f .yorigin) (f .ystep) (y-span false _ _ (p .1) (p .0))
+    span-words (f .yorigin) (f .ystep) (y-span false _ _ (p .ok) (p .fault))
 
 returns : tie.Need-returns
 returns c =
@@ -39,7 +39,7 @@ returns c =
     flat-box _ _
     (span-read (f .xorigin) (f .xstep) _ _ (after-x .span .ensures))
     (span-read (f .yorigin) (f .ystep) _ _ (after-y .span2 .ensures))
-    (p .1) (p .0) (both range z z)
+    (p .ok) (p .fault) (both range z z)
 
 pub flat-bounds-spec : {M : Type 1} → statement M
 flat-bounds-spec = tie.close (tie.spec span-requires span-requires-2 returns)

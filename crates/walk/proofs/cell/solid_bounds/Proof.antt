@@ -19,21 +19,21 @@ span-requires : tie.Need-span-requires
 span-requires c κs =
     let f = told (c .before) in
     let p = c .before .before .pre in
-    span-words (f .xorigin) (f .xstep) (x-span true _ _ (p .1) (p .0))
+    span-words (f .xorigin) (f .xstep) (x-span true _ _ (p .ok) (p .fault))
 
 span-requires-2 : tie.Need-span-requires-2
 span-requires-2 c κs =
     let t = with-x (c .before .before) in
     let f = told t in
     let p = t .before .pre in
-    span-words (f .yorigin) (f .ystep) (y-span true _ _ (p .1) (p .0))
+    span-words (f .yorigin) (f .ystep) (y-span true _ _ (p .ok) (p .fault))
 
 span-requires-3 : tie.Need-span-requires-3
 span-requires-3 c κs =
     let t = with-x (with-y (c .before .before)) in
     let f = told t in
     let p = t .before .pre in
-    span-words (f .zorigin) (f .zstep) (z-span _ _ (p .1) (p .0))
+    span-words (f .zorigin) (f .zstep) (z-span _ _ (p .ok) (p .fault))
 
 returns : tie.Need-returns
 returns c =
@@ -45,7 +45,7 @@ returns c =
     solid-box _ _
     (span-read (f .xorigin) (f .xstep) _ _ (after-x .span .ensures))
     (span-read (f .yorigin) (f .ystep) _ _ (after-y .span2 .ensures))
-    (p .1) (p .0) (span-read (f .zorigin) (f .zstep) _ _ (c .span3 .ensures))
+    (p .ok) (p .fault) (span-read (f .zorigin) (f .zstep) _ _ (c .span3 .ensures))
 
 pub solid-bounds-spec : {M : Type 1} → statement M
 solid-bounds-spec = tie.close (tie.spec span-requires span-requires-2 span-requires-3 returns)

@@ -1,0 +1,3 @@
+-- What shading some pixels promises (Shades).
+pub mod Shades
+pub mod Asked

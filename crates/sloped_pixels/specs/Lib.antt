@@ -1,2 +1,0 @@
--- What shading some pixels promises (Shades).
-pub mod Shades

@@ -1,0 +1,150 @@
+-- The regions of side 16 of the tile.
+use mathlib.Core.Path.{_≡_, refl, _∙_}
+use mathlib.Core.Bool.{true}
+use Prim.Native.Nat.{_-_, _*_, _≤_, _<_}
+use native.Mathlib.Omega.{arith}
+use lib.ListN.{length}
+use Rattle.walk.proofs.CellLaws.{ready-small}
+use Rattle.walk.proofs.LookLaws.{sound-length}
+use Rattle.walk.proofs.Places.{ready-again}
+use Rattle.walk.specs.Children.{Parent, childrenIn}
+use Rattle.walk.proofs.ChildLaws.{parent-of, children-few}
+use Rattle.walk.proofs.ChildLoop.{AtChild, child-begins, child-sum, child-again, child-done}
+use Rattle.solid_blocks.specs.Sides.{below16}
+use Rattle.solid_blocks.proofs.sixteens.sixteens.Statement.{statement}
+use Rattle.solid_blocks.proofs.sixteens.sixteens.Tie as tie
+
+abbrev Inv-loop : tie.InvT-loop
+Inv-loop whole code grid parent picture₀ work₀ second₀ third₀ count₀ end m₀ picture work second third count m =
+    AtChild true 16 4161 code grid below16 parent picture₀ picture count m
+    × (length work ≡ length work₀)
+    × (length second ≡ length second₀)
+    × (length third ≡ length third₀)
+
+abbrev μ-loop : tie.MeasureT-loop
+μ-loop whole code grid parent picture₀ work₀ second₀ third₀ count₀ end m₀ picture work second third count m = end - m
+
+-- The places: the start; in a turn before the child's call, after it, and past the loop.
+abbrev begun : tie.After-slice-known4 Inv-loop μ-loop → tie.Start Inv-loop μ-loop
+begun c = c .before .before .before .before .before .before
+
+abbrev start : tie.At-loop Inv-loop μ-loop → tie.Start Inv-loop μ-loop
+start c = begun (c .before .before)
+
+abbrev in-turn : tie.After-visit-sixteen-arg4 Inv-loop μ-loop → tie.After-child Inv-loop μ-loop
+in-turn c = c .before .before .before .before
+
+abbrev called : tie.After-slice-known8 Inv-loop μ-loop → tie.After-visit-sixteen Inv-loop μ-loop
+called c = c .before .before .before .before .before .before .before .before
+
+-- What is known at them.
+parent : (c : tie.Start Inv-loop μ-loop) → Parent (c .args .parent) 16
+parent c =
+    let p = c .pre in
+    parent-of 16 4 (ready-small (p .ready)) (p .cell) (omega arith) (omega arith) (p .side)
+
+few : (c : tie.Start Inv-loop μ-loop) → length (childrenIn (c .args .parent) 16) ≤ 64
+few c =
+    let p = c .pre in
+    children-few true _ _ 16 4 (omega arith) (omega arith) (p .side) (p .ready .fault) (p .cell)
+
+more : (c : tie.In-loop Inv-loop μ-loop)
+    → c .before .loop .m < length (childrenIn (start (c .before) .args .parent) 16)
+more c = omega (arith, c .loop-test .taken, c .before .before .child-count .ensures)
+
+child-count-requires : tie.Need-child-count-requires Inv-loop μ-loop
+child-count-requires c κs = parent (begun c)
+
+loop-holds : tie.Need-loop-holds Inv-loop μ-loop
+loop-holds c = (
+  child-begins _,
+  refl,
+  refl,
+  refl,
+)
+
+child-requires : tie.Need-child-requires Inv-loop μ-loop
+child-requires c κs = record { parent = parent (start (c .before)); more = more c }
+
+visit-sixteen-requires : tie.Need-visit-sixteen-requires Inv-loop μ-loop
+visit-sixteen-requires c κs =
+    let t = in-turn c in
+    let k = t .child .ensures in
+    let i = t .before .before .loop .inv in
+    let p = start (t .before .before) .pre in
+    record {
+      level = p .level;
+      ready = ready-again (p .ready) (i .0 .size);
+      cell = k .ok _ _ (p .cell);
+      side = k .side;
+      room = omega (arith, p .room, i .1);
+      second = omega (arith, p .second, i .2);
+      third = omega (arith, p .third, i .3);
+    }
+
+add-count : tie.Need-add-count Inv-loop μ-loop
+add-count c =
+    let u = called c in
+    let t = in-turn (u .before) in
+    let l = t .before .before in
+    let s = start l in
+    let sum = child-sum (l .loop .inv .0) 64 (more (t .before)) (few s) (u .visit-sixteen .ensures .bound) in
+    omega (arith, sound-length (s .pre .level .sound), sum)
+
+add-m : tie.Need-add-m Inv-loop μ-loop
+add-m c =
+    let t = in-turn (called c .before) in
+    omega (arith, more (t .before), few (start (t .before .before)))
+
+loop-less : tie.Need-loop-less Inv-loop μ-loop
+loop-less c = omega (arith, in-turn (called c .before) .before .loop-test .taken)
+
+loop-again : tie.Need-loop-again Inv-loop μ-loop
+loop-again c =
+    let v = called c .visit-sixteen in
+    let t = in-turn (called c .before) in
+    let i = t .before .before .loop .inv in
+    let kept = v .kept .1 .1 .1 .1 in (
+      child-again (i .0) (t .child .ensures) (more (t .before)) (v .ensures) (kept .0),
+      kept .1 .0 ∙ i .1,
+      kept .1 .1 .0 ∙ i .2,
+      kept .1 .1 .1 .0 ∙ i .3,
+    )
+
+same-length : tie.Need-same-length Inv-loop μ-loop
+same-length c = c .before .loop .inv .0 .size
+
+same-length-2 : tie.Need-same-length-2 Inv-loop μ-loop
+same-length-2 c = c .before .loop .inv .1
+
+same-length-3 : tie.Need-same-length-3 Inv-loop μ-loop
+same-length-3 c = c .before .loop .inv .2
+
+same-length-4 : tie.Need-same-length-4 Inv-loop μ-loop
+same-length-4 c = c .before .loop .inv .3
+
+returns : tie.Need-returns Inv-loop μ-loop
+returns c =
+    let e = c .before .before .child-count .ensures in
+    child-done (c .before .loop .inv .0) 64 (64 * 4161) (omega (arith, c .loop-test .left)) (few (start (c .before)))
+    (omega arith)
+
+pub sixteens-spec : {M : Type 1} → statement M
+sixteens-spec =
+    tie.close
+    (tie.spec
+    Inv-loop
+    μ-loop
+    child-count-requires
+    loop-holds
+    child-requires
+    visit-sixteen-requires
+    add-count
+    add-m
+    loop-less
+    loop-again
+    same-length
+    same-length-2
+    same-length-3
+    same-length-4
+    returns)

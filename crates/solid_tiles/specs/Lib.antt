@@ -1,0 +1,2 @@
+-- What the functions of the solid drawing by tiles ask.
+pub mod Tiles
