@@ -22,7 +22,7 @@ use Rattle.picture.proofs.BitShows.{row-spare, stored-shows}
 use Rattle.walk.specs.Cells.{CellOk}
 use Rattle.walk.specs.Walks.{Folds}
 use Rattle.walk.specs.declared.cell.Cell.{Cell}
-use Rattle.walk.proofs.Children.{part-one, rowLeft, row-start, row-step, row-end}
+use Rattle.walk.proofs.Along.{part-one, rowLeft, row-start, row-step, row-end}
 use Rattle.walk.proofs.Draws.{draws-same}
 use Rattle.flat_samples.specs.Rows.{materials}
 

@@ -11,7 +11,7 @@ use Rattle.picture.specs.Shapes.{gridIn}
 use Rattle.picture.specs.declared.grid.Grid.{Grid}
 use Rattle.picture.proofs.BitShows.{blank-shows, shows-packed}
 use Rattle.walk.specs.Walks.{Shown, Folds, Walked}
-use Rattle.walk.proofs.Children.{tiles-flat}
+use Rattle.walk.proofs.Along.{tiles-flat}
 use Rattle.walk.proofs.WalkLaws.{walk-shown}
 use Rattle.flat_eights.specs.Sides.{below64}
 

@@ -27,7 +27,7 @@ use Rattle.walk.specs.Cells.{Ready, InGrid}
 use Rattle.walk.specs.Walks.{Sound, Visits}
 use Rattle.walk.proofs.Draws.{hidden-same, draws-count, draws-hidden, draws-sample-full, draws-sample-empty}
 use Rattle.walk.proofs.Filling.{hidden-sample, fill-sample, raises-same}
-use Rattle.walk.proofs.Children.{part-one}
+use Rattle.walk.proofs.Along.{part-one}
 use Rattle.walk.proofs.CellLaws.{small, kind}
 use Rattle.solid_samples.proofs.CellRows.{index-most}
 

@@ -17,7 +17,7 @@ use Rattle.picture.specs.declared.grid.Grid.{Grid}
 use Rattle.picture.proofs.Grids.{accepted}
 use Rattle.walk.specs.Cells.{layersIn, Ready, Small, InGrid, Ends, CellOk, regionIn, SpanIn, spanOf, CellBox}
 use Rattle.walk.specs.declared.cell.Cell.{Cell}
-use Rattle.walk.proofs.Children.{part, children-rows, children-layers}
+use Rattle.walk.proofs.Along.{part, children-rows, children-layers}
 
 -- What an accepted grid has: sizes within the limit, a first sample, and its kind.
 module _ (isSolid : Bool) (grid : Grid) (e : gridFault isSolid (gridIn grid isSolid) ≡ 0) where

@@ -15,7 +15,7 @@ use Rattle.picture.specs.Shapes.{gridIn}
 use Rattle.picture.specs.declared.grid.Grid.{Grid}
 use Rattle.walk.specs.Cells.{layersIn, Small, Ends, CellOk, regionIn}
 use Rattle.walk.specs.declared.cell.Cell.{Cell}
-use Rattle.walk.proofs.Children.{layers-start, layers-step, layers-end, lesser-first, lesser-second}
+use Rattle.walk.proofs.Along.{layers-start, layers-step, layers-end, lesser-first, lesser-second}
 use Rattle.walk.proofs.CellLaws.{kind, cell-layers, cell-rows, ends}
 use Rattle.walk.specs.Children.{partsIn, Axis, Parent, childrenIn, ChildOf}
 use Rattle.walk.proofs.Numbered.{parts-end, part-in, parts-few, nowhere, all-length, all-at, Digits, digits}

@@ -9,7 +9,7 @@ use lib.ListN.{getD}
 use Rattle.rules.specs.Drawings.{Grid, solid, Region, region, pastZ}
 use Rattle.rules.specs.Drawings.{raiseRow, raiseRows, filled, hidden, rowHigh, rowsHigh}
 use Rattle.walk.specs.Draws.{Fills, Raises, Same}
-use Rattle.walk.proofs.Children.{part-one}
+use Rattle.walk.proofs.Along.{part-one}
 
 -- One sample.
 pub fill-sample : {R : List ℕ → List ℕ → Type 0} {g : Grid} {x y z : ℕ} {b b′ : List ℕ} → x < g .width → y < g .height

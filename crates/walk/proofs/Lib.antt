@@ -3,7 +3,7 @@
 -- or `AtLayer` (Loops): it begins, holds again after a turn and is done by one law each. A level cites the law of its
 -- case (LookLaws), and the whole drawing `walk-shown` (WalkLaws).
 pub mod Draws
-pub mod Children
+pub mod Along
 pub mod Filling
 pub mod Signs
 pub mod CellLaws

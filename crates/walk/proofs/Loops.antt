@@ -8,8 +8,8 @@ use lib.ListN.{length}
 use Rattle.rules.specs.Drawings.{region, alongX, alongY, alongZ}
 use Rattle.picture.specs.declared.grid.Grid.{Grid}
 use Rattle.walk.specs.Walks.{Visits, Folds}
-use Rattle.walk.proofs.Children.{rowLeft, row-start, row-step, row-end, rowsLeft}
-use Rattle.walk.proofs.Children.{rows-start, rows-step, rows-end, layers-start, layers-step, layers-end}
+use Rattle.walk.proofs.Along.{rowLeft, row-start, row-step, row-end, rowsLeft}
+use Rattle.walk.proofs.Along.{rows-start, rows-step, rows-end, layers-start, layers-step, layers-end}
 use Rattle.walk.proofs.Places.{Upward, up-starts, up-one, up-list, up-done}
 use Rattle.walk.proofs.Places.{Downward, down-starts, down-within, down-list, down-done}
 

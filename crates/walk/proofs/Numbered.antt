@@ -8,8 +8,8 @@ use native.Mathlib.Omega.{arith}
 use lib.ListN.{length, getD, length-append, List·getD-append}
 use lib.Seq.{getD-append-add}
 use Rattle.rules.specs.Drawings.{Region, region, alongX, alongY, alongZ}
-use Rattle.walk.proofs.Children.{rowLeft, row-start, row-step, row-end, rowsLeft}
-use Rattle.walk.proofs.Children.{rows-start, rows-step, rows-end, layers-start, layers-step, layers-end}
+use Rattle.walk.proofs.Along.{rowLeft, row-start, row-step, row-end, rowsLeft}
+use Rattle.walk.proofs.Along.{rows-start, rows-step, rows-end, layers-start, layers-step, layers-end}
 use Rattle.walk.specs.Children.{partsIn}
 
 -- How many parts.

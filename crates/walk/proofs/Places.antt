@@ -13,7 +13,7 @@ use Rattle.code.specs.Words.{tapeIn}
 use Rattle.picture.specs.Shapes.{gridIn}
 use Rattle.picture.specs.declared.grid.Grid.{Grid}
 use Rattle.walk.proofs.Draws.{Rest, rest-from, rest-one, rest-list, rest-done}
-use Rattle.walk.proofs.Children.{layer-next}
+use Rattle.walk.proofs.Along.{layer-next}
 use Rattle.walk.specs.Cells.{Ready}
 use Rattle.walk.specs.Walks.{Shown, Visits, Folds}
 

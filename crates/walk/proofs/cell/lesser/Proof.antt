@@ -1,7 +1,7 @@
 -- The two cases of the lesser.
 use mathlib.Core.Path.{sym}
 use native.Mathlib.Omega.{arith}
-use Rattle.walk.proofs.Children.{lesser-first, lesser-second}
+use Rattle.walk.proofs.Along.{lesser-first, lesser-second}
 use Rattle.walk.proofs.cell.lesser.Statement.{statement}
 use Rattle.walk.proofs.cell.lesser.Tie as tie
 
