@@ -1,0 +1,3 @@
+// Two tapes into one. A refused call writes nothing, a done one every byte.
+pub mod raise;
+pub mod write;
