@@ -2,10 +2,10 @@
 use Prim.Native.Nat.{_+_, _/_, _≤_}
 use native.Mathlib.Omega.{arith}
 use Rattle.picture.proofs.PictureSizes.{solid-size, flat-size}
-use Rattle.refusals.proofs.LineLaws.{area}
+use Rattle.answers.proofs.LineLaws.{area}
 use borrow.Author.Needs.{needs}
-use Rattle.refusals.proofs.picture_length.Statement.{statement}
-use Rattle.refusals.proofs.picture_length.Tie as tie
+use Rattle.answers.proofs.lines.picture_length.Statement.{statement}
+use Rattle.answers.proofs.lines.picture_length.Tie as tie
 
 abbrev at-start : tie.After-struct-known2 → tie.Start
 at-start c = c .before .before

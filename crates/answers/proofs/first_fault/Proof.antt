@@ -3,10 +3,10 @@ use mathlib.Core.Path.{refl}
 use Prim.Native.Nat.{_-_, _≤_}
 use native.Mathlib.Omega.{arith}
 use lib.ListN.{length}
-use Rattle.refusals.proofs.LineLaws.{From, found, next, none}
+use Rattle.answers.proofs.LineLaws.{From, found, next, none}
 use borrow.Author.Needs.{needs}
-use Rattle.refusals.proofs.first_fault.Statement.{statement}
-use Rattle.refusals.proofs.first_fault.Tie as tie
+use Rattle.answers.proofs.first_fault.Statement.{statement}
+use Rattle.answers.proofs.first_fault.Tie as tie
 
 abbrev Inv-loop : tie.InvT-loop
 Inv-loop lines i₀ i = (i ≤ length lines) × From lines i

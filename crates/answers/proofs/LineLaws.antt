@@ -1,8 +1,8 @@
 -- The checks of a call: a search through its lines, and the length of a picture.
 use mathlib.Core.Path.{_≡_, refl, sym, ap, _∙_}
 use mathlib.Core.Bool.{Bool, true, false, not}
-use mathlib.Core.List.{List}
-use Prim.Native.Nat.{ℕ, _+_, _*_, _/_, _%_, _≤_, _<_}
+use mathlib.Core.List.{List, [], _∷_, _++_}
+use Prim.Native.Nat.{ℕ, zero, suc, _+_, _*_, _/_, _%_, _≤_, _<_}
 use native.Mathlib.Nat.{mul-le-mul}
 use native.Mathlib.Omega.{arith}
 use native.Mathlib.Numerals.{add-one}
@@ -14,7 +14,7 @@ use Rattle.rules.specs.Values.{firstOf, firstFault, when}
 use Rattle.rules.specs.Drawings as D
 use Rattle.rules.specs.Pictures.{pictureSize}
 use Rattle.rules.proofs.Lines.{first-here}
-use Rattle.refusals.specs.Lines.{lengthFault, slopeFault, workFault}
+use Rattle.answers.specs.Lines.{lengthFault, slopeFault, workFault}
 
 -- The lines from the i-th on: the first of these is the first of all.
 pub record From (lines : List ℕ) (i : ℕ) : Type 0 where
@@ -32,6 +32,16 @@ module _ (lines : List ℕ) (i : ℕ) (f : From lines i) where
 
   pub none : i ≡ length lines → 0 ≡ firstFault lines
   none e = sym (f .rest ∙ rw (e, drop-length))
+
+-- Lines that are tested in stages: the first of a stage stands for all of it.
+first-assoc : (a b c : ℕ) → firstOf (firstOf a b) c ≡ firstOf a (firstOf b c)
+first-assoc zero b c = refl
+first-assoc (suc a) b c = refl
+
+pub in-stages : (before after : List ℕ) → firstFault (before ++ after) ≡ firstFault (firstFault before ∷ after)
+in-stages [] after = refl
+in-stages (n ∷ ns) after =
+    ap (firstOf n) (in-stages ns after) ∙ sym (first-assoc n (firstFault ns) (firstFault after))
 
 -- Lines 12 and 13.
 pub length-wrong : (t : Bool) (g : D.Grid) (n m : ℕ) → (n ≡ m → ⊥) → m ≡ pictureSize t g → 12 ≡ lengthFault t g n

@@ -2,10 +2,10 @@
 use mathlib.Core.Path.{_∙_}
 use mathlib.Core.Bool.{true}
 use Rattle.picture.specs.Shapes.{gridIn}
-use Rattle.refusals.proofs.LineLaws.{slopes-odd, slopes-even}
+use Rattle.answers.proofs.LineLaws.{slopes-odd, slopes-even}
 use borrow.Author.Needs.{needs}
-use Rattle.refusals.proofs.slope_fault.Statement.{statement}
-use Rattle.refusals.proofs.slope_fault.Tie as tie
+use Rattle.answers.proofs.lines.slope_fault.Statement.{statement}
+use Rattle.answers.proofs.lines.slope_fault.Tie as tie
 
 length-fault-requires : tie.Need-length-fault-requires
 length-fault-requires c κs = search needs

@@ -1,8 +1,8 @@
 -- Compared with the length as it must be.
-use Rattle.refusals.proofs.LineLaws.{length-wrong, length-right}
+use Rattle.answers.proofs.LineLaws.{length-wrong, length-right}
 use borrow.Author.Needs.{needs}
-use Rattle.refusals.proofs.length_fault.Statement.{statement}
-use Rattle.refusals.proofs.length_fault.Tie as tie
+use Rattle.answers.proofs.lines.length_fault.Statement.{statement}
+use Rattle.answers.proofs.lines.length_fault.Tie as tie
 
 picture-length-requires : tie.Need-picture-length-requires
 picture-length-requires c κs = search needs

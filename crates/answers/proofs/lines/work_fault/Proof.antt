@@ -1,7 +1,7 @@
 -- Compared with the least length.
-use Rattle.refusals.proofs.LineLaws.{work-short, work-enough}
-use Rattle.refusals.proofs.work_fault.Statement.{statement}
-use Rattle.refusals.proofs.work_fault.Tie as tie
+use Rattle.answers.proofs.LineLaws.{work-short, work-enough}
+use Rattle.answers.proofs.lines.work_fault.Statement.{statement}
+use Rattle.answers.proofs.lines.work_fault.Tie as tie
 
 returns : tie.Need-returns
 returns c = work-short _ (c .if1 .taken)
