@@ -19,7 +19,7 @@ abbrev pub answer : ℕ → ℕ → ℕ → Answer
 answer n p c = record { number = n; place = p; count = c }
 
 -- The count of a call that draws nothing is 0 whatever the number, and so is the place where no tape is read.
-no-figure : (t : Bool) → _≡_ {A = ℕ} 0 (pick t 0 0)
+pub no-figure : (t : Bool) → _≡_ {A = ℕ} 0 (pick t 0 0)
 no-figure true = refl
 no-figure false = refl
 

@@ -18,6 +18,7 @@ pub use probing::probe_side;
 pub use sloped::tile_slopes;
 pub use solid::draw_solid;
 pub use solid::tile_solid;
+ghost use Rattle.merge.specs.Says.{MergeSays};
 ghost use Rattle.layers.specs.Says.{PackSays, UnpackSays, BitmapSays, HeightsSay, TextAnswered};
 
 // The answer of unpacking, with the tape's slot count.
@@ -42,6 +43,12 @@ pub fn unpack_tape(tape: &[u8], out: &mut [i32]) -> Listed
         answer: refused(p.number, p.place),
         slots: p.slots,
     }
+}
+
+pub fn merge_tapes(first: &[u8], second: &[u8], out: &mut [u8]) -> Answer
+    ensures { λ r. ⌜ MergeSays (now (first .entry)) (now (second .entry)) (now (out .entry)) (now (out .exit)) r ⌝ }
+{
+    merge::merge_tapes(first, second, out)
 }
 
 pub fn write_bitmap(width: u32, height: u32, picture: &[u8], out: &mut [u8]) -> Answer

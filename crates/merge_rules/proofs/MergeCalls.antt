@@ -34,7 +34,6 @@ pub record MergeOrder (s v : List ℕ) (n : ℕ) : Type 0 where
       → n ≡ mergedSize s v → mergeFault s v n ≡ 0
 
 pub merge-order : (s v : List ℕ) (n : ℕ) → MergeOrder s v n
-unfolding mergeFault
 merge-order s v n =
     let l = length (mergedBytes s v) in
     let k : l ≡ mergedSize s v = merged-length (readTape s .tape) (readTape v .tape) in
@@ -63,7 +62,6 @@ pub record Clear (s v : List ℕ) (n : ℕ) : Type 0 where
   pub room : n ≡ length (mergedBytes s v)
 
 pub merge-clear : (s v : List ℕ) (n : ℕ) → mergeFault s v n ≡ 0 → Clear s v n
-unfolding mergeFault
 merge-clear s v n e =
     let c = canMerge (readTape s .tape) (readTape v .tape) in
     let l = length (mergedBytes s v) in

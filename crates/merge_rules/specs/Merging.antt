@@ -55,7 +55,7 @@ mergeLines s v n =
     ∷ (when (not (canMerge (readTape s .tape) (readTape v .tape))) 21
     ∷ (when (not (eqb n (length (mergedBytes s v)))) 14 ∷ [])))
 
-unfoldable pub mergeFault : List ℕ → List ℕ → ℕ → ℕ
+abbrev pub mergeFault : List ℕ → List ℕ → ℕ → ℕ
 mergeFault s v n = firstFault (mergeLines s v n)
 
 -- "Place is the clause index, from 0, in the tape or list at fault for 5 to 9": in whichever of the two failed.

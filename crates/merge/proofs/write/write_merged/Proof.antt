@@ -70,7 +70,8 @@ copy-clauses-requires-2 c κs =
       tape = second-counted _ _ _ _ _ (s .pre);
       few = omega (arith, sizes s .slots);
       place = omega (arith, sizes s .clauses);
-      room = omega (arith, sizes s .bytes, o .before .before .before .out .given, c .before .before .before .out2 .given);
+      room =
+          omega (arith, sizes s .bytes, o .before .before .before .out .given, c .before .before .before .out2 .given);
     }
 
 result-slot-requires : tie.Need-result-slot-requires
