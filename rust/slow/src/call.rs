@@ -21,7 +21,7 @@ pub(crate) fn answer(done: Result<u64, Refused>) -> Answer {
     }
 }
 
-fn exact_len<T>(buffer: &[T], len: usize, number: u8) -> Result<(), Refused> {
+pub(crate) fn exact_len<T>(buffer: &[T], len: usize, number: u8) -> Result<(), Refused> {
     if buffer.len() == len { Ok(()) } else { refuse(number) }
 }
 
@@ -88,7 +88,7 @@ pub fn draw<P: Picture>(tape: &[u8], grid: &Grid, picture: &mut [P]) -> Answer {
 }
 
 /// Line 13.
-fn enough_work(work: &[u8]) -> Result<(), Refused> {
+pub(crate) fn enough_work(work: &[u8]) -> Result<(), Refused> {
     if work.len() < 32_768 { refuse(13) } else { Ok(()) }
 }
 

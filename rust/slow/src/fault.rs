@@ -1,8 +1,9 @@
 //! Faults that can be planted, one at a time, to see that the tests catch each.
 
 use std::cell::Cell;
+use std::thread::LocalKey;
 
-listed! {
+faults! {
     /// The first ten are those of the scope paper's list "Faults that draw a good-looking picture".
     Fault {
         /// A dropped minimum leaves its choice to be taken by another clause.
@@ -78,19 +79,21 @@ listed! {
     }
 }
 
-thread_local! {
-    static PLANTED: Cell<Option<Fault>> = const { Cell::new(None) };
+/// A list of faults: the drawings' here, those of a later call in its module.
+pub trait Plant: Copy + PartialEq + 'static {
+    /// The one that is planted in this thread.
+    fn cell() -> &'static LocalKey<Cell<Option<Self>>>;
 }
 
 /// Whether the fault is planted in this thread.
-pub fn planted(fault: Fault) -> bool {
-    PLANTED.get() == Some(fault)
+pub fn planted<F: Plant>(fault: F) -> bool {
+    F::cell().get() == Some(fault)
 }
 
 /// Plants the fault in this thread for as long as `run` runs.
-pub fn with<T>(fault: Fault, run: impl FnOnce() -> T) -> T {
-    PLANTED.set(Some(fault));
+pub fn with<F: Plant, T>(fault: F, run: impl FnOnce() -> T) -> T {
+    F::cell().set(Some(fault));
     let result = run();
-    PLANTED.set(None);
+    F::cell().set(None);
     result
 }

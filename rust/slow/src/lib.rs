@@ -16,13 +16,33 @@ macro_rules! listed {
     };
 }
 
+/// A list of faults, of which one can be planted in a thread.
+macro_rules! faults {
+    ($(#[$about:meta])* $kind:ident { $($cases:tt)* }) => {
+        listed! { $(#[$about])* $kind { $($cases)* } }
+
+        thread_local! {
+            static PLANTED: std::cell::Cell<Option<$kind>> = const { std::cell::Cell::new(None) };
+        }
+
+        impl $crate::fault::Plant for $kind {
+            fn cell() -> &'static std::thread::LocalKey<std::cell::Cell<Option<$kind>>> {
+                &PLANTED
+            }
+        }
+    };
+}
+
 pub mod arith;
 pub mod call;
 pub mod compile;
 pub mod draw;
 pub mod edition;
+#[cfg(test)]
+mod examples;
 pub mod fault;
 pub mod formula;
+pub mod merge;
 pub mod netpbm;
 pub mod probe;
 pub mod program;

@@ -1,5 +1,6 @@
 //! The walk by tiles, with its count.
 
+use crate::arith::{Choice, Range};
 use crate::draw::Grid;
 use crate::fault::{Fault, planted};
 use crate::seen::{Event, note};
@@ -8,96 +9,156 @@ use crate::tape::Tape;
 const FLAT: [u32; 3] = [64, 8, 1];
 const SOLID: [u32; 4] = [64, 16, 4, 1];
 
+/// A region: its first indices, and those behind its last ones.
+#[derive(Clone, Copy, Debug, PartialEq, Eq)]
+pub struct Region {
+    pub first: [u32; 3],
+    pub end: [u32; 3],
+}
+
+impl Region {
+    /// The regions of a side that it is cut into, the last ones cut off at its end: greatest z first, then rows upward,
+    /// then columns.
+    pub fn cut(&self, side: u32) -> Vec<Region> {
+        let starts = |axis: usize| (self.first[axis]..self.end[axis]).step_by(side as usize);
+        let mut layers: Vec<u32> = starts(2).collect();
+        if !planted(Fault::LeastZFirst) {
+            layers.reverse();
+        }
+        let mut regions = Vec::new();
+        for &z in &layers {
+            for y in starts(1) {
+                for x in starts(0) {
+                    let first = [x, y, z];
+                    regions.push(Region { first, end: [0, 1, 2].map(|a| (first[a] + side).min(self.end[a])) });
+                }
+            }
+        }
+        regions
+    }
+
+    /// The places of its pixels in row order.
+    pub fn pixels(&self, grid: &Grid) -> Vec<usize> {
+        let width = grid.sizes[0] as usize;
+        let (columns, rows) = (self.first[0]..self.end[0], self.first[1]..self.end[1]);
+        rows.flat_map(|y| columns.clone().map(move |x| y as usize * width + x as usize)).collect()
+    }
+
+    /// The tape's range over it, and each clause's choice.
+    pub fn range(&self, tape: &Tape, grid: &Grid, solid: bool) -> (Range, Vec<Choice>) {
+        tape.range_over(grid.axes(solid, self.first, self.end.map(|e| e - 1)))
+    }
+}
+
+/// The 64-tiles, as the walk meets them.
+pub fn tiles(grid: &Grid, solid: bool) -> Vec<Region> {
+    let all = Region { first: [0; 3], end: [grid.sizes[0], grid.sizes[1], grid.layers(solid)] };
+    all.cut(FLAT[0])
+}
+
+/// What a range decides of its region.
+#[derive(Clone, Copy, Debug, PartialEq, Eq)]
+pub enum Verdict {
+    Full,
+    Empty,
+    Mixed,
+}
+
+impl Verdict {
+    pub fn of(range: Range) -> Self {
+        match range {
+            Range { high, .. } if high < 0 => Verdict::Full,
+            Range { low, .. } if low >= 0 => Verdict::Empty,
+            _ => Verdict::Mixed,
+        }
+    }
+}
+
 /// The heights (0 and 1 in a flat picture) and the count.
 pub fn walk(tape: &Tape, grid: &Grid, solid: bool) -> (Vec<u16>, u64) {
-    let pixels = grid.sizes[0] as usize * grid.sizes[1] as usize;
-    let mut walk = Walk {
-        grid,
-        solid,
-        sides: if solid { &SOLID } else { &FLAT },
-        whole: tape.clauses.len(),
-        heights: vec![0; pixels],
-        count: 0,
-        tiles: 0,
-    };
-    let end = [grid.sizes[0], grid.sizes[1], grid.layers(solid)];
-    walk.siblings(tape, [0, 0, 0], end, 0);
+    walk_over(tape, grid, solid, &tiles(grid, solid))
+}
+
+/// The same over 64-tiles that are given, in their order.
+pub fn walk_over(tape: &Tape, grid: &Grid, solid: bool, tiles: &[Region]) -> (Vec<u16>, u64) {
+    let mut walk = Walk::new(tape, grid, solid);
+    walk.visit_all(tape, tiles, 0);
     if planted(Fault::EmptyPicture) {
-        walk.heights = vec![0; pixels];
+        walk.heights.fill(0);
     }
     (walk.heights, walk.count)
 }
 
-struct Walk<'a> {
+pub struct Walk<'a> {
     grid: &'a Grid,
     solid: bool,
     sides: &'a [u32],
     /// The clauses of the whole tape.
     whole: usize,
-    heights: Vec<u16>,
-    count: u64,
+    pub heights: Vec<u16>,
+    pub count: u64,
     /// The 64-tiles begun.
     tiles: u32,
 }
 
 impl Walk<'_> {
-    /// Visits all regions of a level from `first` up to `end`: greatest z first, then rows upward, then columns.
-    fn siblings(&mut self, tape: &Tape, first: [u32; 3], end: [u32; 3], level: usize) {
-        let side = self.sides[level];
-        let starts = |axis: usize| -> Vec<u32> { (first[axis]..end[axis]).step_by(side as usize).collect() };
-        let mut layers = starts(2);
-        if !planted(Fault::LeastZFirst) {
-            layers.reverse();
-        }
+    /// Before the first region.
+    pub fn new<'a>(tape: &Tape, grid: &'a Grid, solid: bool) -> Walk<'a> {
+        let pixels = grid.sizes[0] as usize * grid.sizes[1] as usize;
+        let sides: &[u32] = if solid { &SOLID } else { &FLAT };
+        Walk { grid, solid, sides, whole: tape.clauses.len(), heights: vec![0; pixels], count: 0, tiles: 0 }
+    }
+
+    /// Visits regions of one level, siblings in their order.
+    fn visit_all(&mut self, tape: &Tape, regions: &[Region], level: usize) {
         let mut sibling = None;
-        for &z in &layers {
-            for &y in &starts(1) {
-                for &x in &starts(0) {
-                    self.visit(tape, [x, y, z], end, level, &mut sibling);
-                }
-            }
+        for region in regions {
+            self.visit(tape, region, level, &mut sibling);
         }
     }
 
+    /// Visits the regions that a 64-tile is cut into, with its short tape.
+    pub fn visit_inside(&mut self, short: &Tape, tile: &Region) {
+        self.visit_all(short, &tile.cut(self.sides[1]), 1);
+    }
+
     /// One region. `sibling` is the tape shortened for the region before it, which only a fault asks for.
-    fn visit(&mut self, tape: &Tape, first: [u32; 3], outer: [u32; 3], level: usize, sibling: &mut Option<Tape>) {
-        let side = self.sides[level];
-        // cut off at the grid's edge, which the outer region's end is at the latest
-        let end = [0, 1, 2].map(|a| (first[a] + side).min(outer[a]));
+    fn visit(&mut self, tape: &Tape, region: &Region, level: usize, sibling: &mut Option<Tape>) {
         self.tiles += (level == 0) as u32;
         if planted(Fault::FirstTileOnly) && self.tiles > 1 {
             return;
         }
-        if self.solid && self.hidden(first, end) {
+        if self.solid && self.hidden(region) {
             note(Event::Hidden);
             return;
         }
         self.count += tape.clauses.len() as u64;
         if level + 1 == self.sides.len() {
-            self.sample(tape, first, end);
+            self.sample(tape, region);
             return;
         }
-        let last = end.map(|e| e - 1);
-        let (range, choices) = tape.range_over(self.grid.axes(self.solid, first, last));
-        if range.high < 0 {
-            note(Event::Filled);
-            self.fill(first, end);
-        } else if range.low >= 0 {
-            note(Event::Skipped);
-        } else {
-            let short = tape.shortened(&choices);
-            self.note_cut(tape, &short, level);
-            let given = given(tape, &short, sibling);
-            *sibling = Some(short);
-            self.siblings(&given, first, end, level + 1);
+        let (range, choices) = region.range(tape, self.grid, self.solid);
+        match Verdict::of(range) {
+            Verdict::Full => {
+                note(Event::Filled);
+                self.fill(region);
+            }
+            Verdict::Empty => note(Event::Skipped),
+            Verdict::Mixed => {
+                let short = tape.shortened(&choices);
+                self.note_cut(tape, &short, level);
+                let given = given(tape, &short, sibling);
+                *sibling = Some(short);
+                self.visit_all(&given, &region.cut(self.sides[level + 1]), level + 1);
+            }
         }
     }
 
     /// A region of side 1, run on values.
-    fn sample(&mut self, tape: &Tape, first: [u32; 3], end: [u32; 3]) {
+    fn sample(&mut self, tape: &Tape, region: &Region) {
         note(if self.solid { Event::SolidSample } else { Event::FlatSample });
-        if tape.material(self.grid.sample_at(self.solid, first)) {
-            self.fill(first, end);
+        if tape.material(self.grid.sample_at(self.solid, region.first)) {
+            self.fill(region);
         }
     }
 
@@ -110,23 +171,18 @@ impl Walk<'_> {
         }
     }
 
-    fn pixels(&self, first: [u32; 3], end: [u32; 3]) -> Vec<usize> {
-        let width = self.grid.sizes[0] as usize;
-        (first[1]..end[1]).flat_map(|y| (first[0]..end[0]).map(move |x| y as usize * width + x as usize)).collect()
-    }
-
     /// Whether every pixel already has at least the height that filling the region would give.
-    fn hidden(&self, first: [u32; 3], end: [u32; 3]) -> bool {
+    fn hidden(&self, region: &Region) -> bool {
         if planted(Fault::HiddenTooEarly) && self.heights.iter().all(|&h| h == 0) {
             return true;
         }
-        self.pixels(first, end).iter().all(|&p| self.heights[p] >= end[2] as u16)
+        region.pixels(self.grid).iter().all(|&p| self.heights[p] >= region.end[2] as u16)
     }
 
     /// Raises each pixel's height to the region's greatest z index + 1.
-    fn fill(&mut self, first: [u32; 3], end: [u32; 3]) {
-        for p in self.pixels(first, end) {
-            self.heights[p] = self.heights[p].max(end[2] as u16);
+    pub fn fill(&mut self, region: &Region) {
+        for p in region.pixels(self.grid) {
+            self.heights[p] = self.heights[p].max(region.end[2] as u16);
         }
     }
 }
