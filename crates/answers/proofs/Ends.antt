@@ -51,7 +51,7 @@ module _ (s lines : List ℕ) (h : getD lines 0 0 ≡ readTape s .number) where
       let i : n ≡ readTape s .number = ap (λ l. getD l 0 0) e ∙ h in
       this-line [] n ns refl (λ z. k (sym i ∙ z)) ∙ i
 
-  tape-place : readTape s .place ≡ placeOf (firstFault lines) (readTape s .place)
+  pub tape-place : readTape s .place ≡ placeOf (firstFault lines) (readTape s .place)
   tape-place = go (readTape s .number) refl
     where
       go : (n : ℕ) → readTape s .number ≡ n → readTape s .place ≡ placeOf (firstFault lines) (readTape s .place)

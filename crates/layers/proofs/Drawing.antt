@@ -60,7 +60,10 @@ pub full-refused : (t : Bool) (s : List ℕ) (d : Grid) (o : List ℕ) {f p : �
 full-refused t s d o e k h p =
     let lines = drawLines t s (gridIn d t) (length o) in
     let z = ne-eqb (drawFault t s (gridIn d t) (length o)) 0 (λ y. h (k ∙ y)) in
-    record { answer = refused-by s lines refl (first-stage s e k refl p) (λ y. h (k ∙ y)); pixels = rw z }
+    record {
+      answer = refused-by s lines refl (first-stage s {found = lines} e k refl p) (λ y. h (k ∙ y));
+      pixels = rw z;
+    }
 
 -- A full drawing that is done.
 pub full-done : (t : Bool) (s : List ℕ) (d : Grid) (o : List ℕ) {o′ : List ℕ} {k : ℕ} {r : Answer}

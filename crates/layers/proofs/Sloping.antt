@@ -52,7 +52,12 @@ module _ (s : List ℕ) (d : Grid) (o : List ℕ) (p : List ℤ) (w : List ℕ) 
   slopes-refused e k h q =
       let lines = slopeLines s (gridIn d true) (length o) (length p) (length w) in
       let z = ne-eqb (slopesFault s (gridIn d true) (length o) (length p) (length w)) 0 (λ y. h (k ∙ y)) in
-      record { answer = refused-by s lines refl (first-stage s e k refl q) (λ y. h (k ∙ y)); pixels = rw z; slopes = rw z; work = rw z }
+      record {
+        answer = refused-by s lines refl (first-stage s {found = lines} e k refl q) (λ y. h (k ∙ y));
+        pixels = rw z;
+        slopes = rw z;
+        work = rw z;
+      }
 
   -- Done: the walk's picture and count, the slopes at its heights, and the work buffer cleared.
   pub slopes-done : {o′ : List ℕ} {p′ : List ℤ} {w′ : List ℕ} {k : ℕ} {r : Answer} → r ≡ answer 0 0 k

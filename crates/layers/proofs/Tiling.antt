@@ -49,7 +49,11 @@ module _ (t : Bool) (s : List ℕ) (d : Grid) (o w : List ℕ) where
   tiles-refused e k h p =
       let lines = tileLines t s (gridIn d t) (length o) (length w) in
       let z = ne-eqb (tileFault t s (gridIn d t) (length o) (length w)) 0 (λ y. h (k ∙ y)) in
-      record { answer = refused-by s lines refl (first-stage s e k refl p) (λ y. h (k ∙ y)); pixels = rw z; work = rw z }
+      record {
+        answer = refused-by s lines refl (first-stage s {found = lines} e k refl p) (λ y. h (k ∙ y));
+        pixels = rw z;
+        work = rw z;
+      }
 
   -- Done: the walk's picture and count, and the work buffer cleared.
   pub tiles-done : {o′ w′ : List ℕ} {k : ℕ} {r : Answer} → r ≡ answer 0 0 k

@@ -7,6 +7,7 @@ pub mod files;
 pub mod grammar;
 pub mod grids;
 pub mod lists;
+pub mod merging;
 pub mod packing;
 pub mod probe;
 pub mod program;

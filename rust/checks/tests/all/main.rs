@@ -7,6 +7,7 @@ mod examples;
 mod faults;
 mod figures;
 mod lanes;
+mod merging;
 mod probe;
 mod program;
 mod refusals;
