@@ -1,5 +1,5 @@
 -- The loop that copies a tape's clauses, and the parts of the merged tape one behind the other.
-use mathlib.Core.Path.{_≡_, refl, sym, ap, ap₂, _∙_}
+use mathlib.Core.Path.{_≡_, refl, sym, ap, _∙_}
 use mathlib.Core.Bool.{Bool, true, false}
 use mathlib.Core.List.{List, [], _∷_, _++_, map, append-nil}
 use Prim.Native.Nat.{ℕ, _+_, _*_, _≤_, _<_}
@@ -11,10 +11,10 @@ use borrow.Author.Tests.{lt-ltb}
 use Rattle.rules.specs.Values.{pick, Clause}
 use Rattle.rules.specs.Tapes.{Raw, Got, slotLimit, clauseLimit, lastOpcode, isSlot, nat, lastOut, word, markOk, rawIn}
 use Rattle.rules.specs.Tapes.{clauseOf, rawsFrom, clauseBytes, headBytes, readTape}
-use Rattle.rules.specs.Accepted.{Accepted, AllFit, Fits}
+use Rattle.rules.specs.Accepted.{AllFit, Fits}
 use Rattle.rules.proofs.Reading.{tape-accepted, tape-tape}
 use Rattle.rules.proofs.Accepted.{accepted-tape, operand-below}
-use Rattle.rules.proofs.Bytes.{length-read, length-bytes, bytes-cons}
+use Rattle.rules.proofs.Bytes.{length-read, length-bytes}
 use Rattle.tape.proofs.ByteClauses.{left-from, raws-first, raws-here, raws-over}
 use Rattle.tape.proofs.WrittenBytes.{runs, and-then}
 use Rattle.tape_check.specs.declared.Checked.{Checked}

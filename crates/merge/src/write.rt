@@ -11,7 +11,6 @@ use tape_check::Checked;
 ghost use mathlib.Core.Path.{_≡_};
 ghost use mathlib.Core.List.{[], _∷_, map};
 ghost use Prim.Native.Nat.{_+_, _*_, _≤_, _<_};
-ghost use lib.ListN.{length};
 ghost use lib.Seq.{sets};
 ghost use Rattle.rules.specs.Tapes.{lastOut, clauseBytes, readTape};
 ghost use Rattle.merge_rules.specs.Merging.{raised as raisedBy, minimumOf, mergedBytes};

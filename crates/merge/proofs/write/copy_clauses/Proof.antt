@@ -1,9 +1,7 @@
 -- `write::copy_clauses` meets its contract: the clauses from the i-th on.
 use Prim.Native.Nat.{_+_, _*_, _-_, _≤_}
 use native.Mathlib.Omega.{arith}
-use borrow.Author.Needs.{needs}
 use lib.ListN.{length}
-use Rattle.tape.specs.Clauses.{rawOf}
 use Rattle.merge.proofs.Copying.{Sizes, sizes, Copying, start-copying, clause-slots, next-copying, all-copied}
 use Rattle.merge.proofs.write.copy_clauses.Statement.{statement}
 use Rattle.merge.proofs.write.copy_clauses.Tie as tie

@@ -1,6 +1,5 @@
 -- `write::write_merged` meets its contract: the head, the clauses of both tapes, the minimum.
 use mathlib.Core.Path.{refl}
-use Prim.Native.Nat.{_+_, _*_, _≤_}
 use native.Mathlib.Omega.{arith}
 use borrow.Author.Needs.{needs}
 use Rattle.merge.proofs.Copying.{first-counted, second-counted, Room, room, written}
