@@ -76,7 +76,7 @@ fn merged_tapes_are_drawn() {
     }
 }
 
-/// Each number of a merge's refusals is met.
+/// Each number from 0 to 9 is met, and 14; 21 is by the pairs that are not damaged.
 #[test]
 fn damaged_pairs() {
     let mut r = Random::seeded("damaged_pairs", 0x5EED_0052);
@@ -86,8 +86,7 @@ fn damaged_pairs() {
         met[compared(&Merging::damaged(&mut r), &mut r).number as usize] += 1;
     }
     println!("damaged_pairs: answers by number: {met:?}");
-    let lines = (0..=9).chain([14, 21]);
-    assert!(lines.into_iter().all(|number| met[number] >= cases / 400), "answers by number: {met:?}");
+    assert!((0..=9).chain([14]).all(|number| met[number] >= cases / 400), "answers by number: {met:?}");
 }
 
 /// The head of a tape counts so many slots that no other goes with it.
