@@ -10,7 +10,7 @@
  *
  *   - it has the length stated behind a pointer that is not null, and can be written where it is not const;
  *   - it is aligned: int32_t at a multiple of 4 bytes, uint16_t at a multiple of 2;
- *   - it overlaps no other buffer of the call;
+ *   - it overlaps no other buffer of the call, unless both are const: buffers that are only read may overlap;
  *   - during the call nobody else changes it, or reads it where it is not const: no other thread, no signal handler.
  *
  * Calls whose buffers are apart may run at once, in several threads. A call cannot be cancelled, and a small input can
@@ -33,11 +33,12 @@
  *   11 a step below 1, or an origin, z or last sample outside -2,147,483,647 to 2,147,483,647
  *   12 picture or slope buffer not of the exact length
  *   13 work buffer below 32,768 bytes
- *   14 packing, unpacking, text or file: output not of the exact length
+ *   14 packing, unpacking, merging, text or file: output not of the exact length
  *   17 text: the rules of a formula broken
  *   18 text: a bracket, a function's too, that opens inside 32 others
  *   19 text: more than 1,024 clauses or 64 slots needed
  *   20 probe: a coordinate not a number, infinite, or above 32,767 in magnitude
+ *   21 merging: a result of more than 6,144 clauses, the minimum counted, or of more than 128 slots
  */
 #ifndef LAYERS_H
 #define LAYERS_H
@@ -105,6 +106,14 @@ typedef struct {
  */
 LayersAnswer layers_pack_tape(uint32_t slots, const int32_t *list, size_t list_len, uint8_t *out, size_t out_len);
 LayersListed layers_unpack_tape(const uint8_t *tape, size_t tape_len, int32_t *out, size_t out_len);
+
+/*
+ * Two tapes into one of 8 + 10 bytes for each clause of both and for one more, a minimum: the smaller of the two values
+ * at every sample. The place is the clause in whichever tape failed, the first being checked first. A tape may be lent
+ * as both.
+ */
+LayersAnswer layers_merge_tapes(const uint8_t *first, size_t first_len, const uint8_t *second, size_t second_len,
+                                uint8_t *out, size_t out_len);
 
 /*
  * A formula as text, such as max(root(sqr(x) + sqr(y)) - 12.5, abs(z) - 2), to a tape; README.md has the rules. out has

@@ -1,5 +1,5 @@
 // The figures of the scope paper that are run, by the public calls: tapes, both files, and the limits; and the drawn
-// figure of tapes of edition 02. Number, place and count of each call are written.
+// figures of tapes of edition 02 and of two tapes into one. Number, place and count of each call are written.
 mod files;
 mod given;
 mod limits;
@@ -10,6 +10,7 @@ fn main() {
     tapes::example();
     tapes::least_constant();
     tapes::edition_02();
+    tapes::merged();
     files::flat();
     files::flat_in_full();
     files::solid();

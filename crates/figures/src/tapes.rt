@@ -1,6 +1,7 @@
-// Packing and unpacking, and a tape of edition 02 drawn.
+// Packing and unpacking, a tape of edition 02 drawn, and two tapes into one.
 use crate::given;
 use crate::say;
+use layers::merge_tapes;
 use layers::pack_tape;
 use layers::tile_flat;
 use layers::unpack_tape;
@@ -38,5 +39,24 @@ pub fn edition_02() {
     let mut picture = [255u8; 2];
     let drawn = tile_flat(&tape, given::grid(3, 2, 0), &mut picture, &mut work);
     say::answer(b"1,103 clauses drawn", drawn);
+    say::bytes(&picture);
+}
+
+// x less 2 and y less 1 as one tape, and where either is below 0.
+pub fn merged() {
+    let first = given::tape(1);
+    let list = [2i32, 0, 0, 0, 0, 0, 1, 0, 0, 65536, 10, 0, 0, 1, 0];
+    let mut second = [255u8; 38];
+    say::answer(b"the second tape", pack_tape(2, &list, &mut second));
+    let mut tape = [255u8; 78];
+    say::answer(
+        b"two tapes into one",
+        merge_tapes(&first, &second, &mut tape),
+    );
+    say::bytes(&tape);
+    let mut work = given::work();
+    let mut picture = [255u8; 2];
+    let drawn = tile_flat(&tape, given::grid(3, 2, 0), &mut picture, &mut work);
+    say::answer(b"both drawn", drawn);
     say::bytes(&picture);
 }

@@ -14,8 +14,9 @@ use Rattle.rules.proofs.Tiles.{demand-3}
 use Rattle.picture.specs.Shapes.{gridIn}
 use Rattle.picture.specs.declared.grid.Grid.{Grid}
 use Rattle.picture.proofs.Grids.{accepted}
-use Rattle.layers.specs.declared.Answer.{Answer}
-use Rattle.layers.specs.Says.{drawFault, tileFault, FullSays, TilesSay}
+use Rattle.answers.specs.declared.Answer.{Answer}
+use Rattle.answers.specs.Lines.{drawFault, tileFault}
+use Rattle.layers.specs.Says.{FullSays, TilesSay}
 use Rattle.layers.proofs.Tiling.{tiles-clear}
 
 -- A done drawing by tiles.

@@ -14,7 +14,7 @@ use Rattle.rules.proofs.Lines.{first-none, each-line}
 use Rattle.rules.proofs.Bytes.{both-ways}
 use Rattle.rules.proofs.Reading.{list-tape}
 use Rattle.packing.specs.Packing.{copyFault}
-use Rattle.layers.specs.declared.Answer.{Answer}
+use Rattle.answers.specs.declared.Answer.{Answer}
 use Rattle.layers.specs.declared.Listed.{Listed}
 use Rattle.layers.specs.Says.{PackSays, UnpackSays}
 

@@ -16,10 +16,11 @@ use Rattle.rules.proofs.Accepted.{accepted-tape}
 use Rattle.picture.specs.Shapes.{gridIn}
 use Rattle.picture.specs.declared.grid.Grid.{Grid}
 use Rattle.editions.specs.Sizes.{Draws, FullOf}
-use Rattle.layers.specs.declared.Answer.{Answer}
-use Rattle.refusals.specs.Lines.{lengthFault}
-use Rattle.layers.specs.Says.{drawLines, drawFault, FullSays}
-use Rattle.layers.proofs.Answers.{answer, refused-by, done-by}
+use Rattle.answers.specs.declared.Answer.{Answer}
+use Rattle.answers.specs.Lines.{lengthFault}
+use Rattle.answers.specs.Lines.{drawLines, drawFault}
+use Rattle.layers.specs.Says.{FullSays}
+use Rattle.answers.proofs.Ends.{answer, first-stage, refused-by, done-by}
 
 pub when-zero : (t : Bool) (n : ℕ) → when (not t) (suc n) ≡ 0 → t ≡ true
 when-zero true n e = refl
@@ -59,7 +60,10 @@ pub full-refused : (t : Bool) (s : List ℕ) (d : Grid) (o : List ℕ) {f p : �
 full-refused t s d o e k h p =
     let lines = drawLines t s (gridIn d t) (length o) in
     let z = ne-eqb (drawFault t s (gridIn d t) (length o)) 0 (λ y. h (k ∙ y)) in
-    record { answer = refused-by s lines refl e k h p; pixels = rw z }
+    record {
+      answer = refused-by s lines refl (first-stage s {found = lines} e k refl p) (λ y. h (k ∙ y));
+      pixels = rw z;
+    }
 
 -- A full drawing that is done.
 pub full-done : (t : Bool) (s : List ℕ) (d : Grid) (o : List ℕ) {o′ : List ℕ} {k : ℕ} {r : Answer}

@@ -22,10 +22,11 @@ use Rattle.probe.specs.declared.point.Point.{Point}
 use Rattle.probe.specs.declared.Finding.{Finding}
 use Rattle.probe.specs.declared.side.Probe.the-variants.{Inside, Outside, Surface}
 use Rattle.probe.proofs.Probing.{clear, coordinates}
-use Rattle.layers.specs.declared.Answer.{Answer}
+use Rattle.answers.specs.declared.Answer.{Answer}
 use Rattle.layers.specs.declared.probing.Probed.{Probed}
-use Rattle.layers.specs.Says.{Answered, ProbeSays}
-use Rattle.layers.proofs.Answers.{answer, uncounted, tape-place}
+use Rattle.answers.specs.Says.{Answered}
+use Rattle.layers.specs.Says.{ProbeSays}
+use Rattle.answers.proofs.Ends.{answer, uncounted, tape-place}
 
 -- The place of a tape that is accepted is 0, and so the place of line 20.
 pub probe-answer : {s : List ℕ} {p : Point} {f : Finding} {r : Answer} → Found s p f

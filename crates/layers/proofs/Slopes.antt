@@ -18,8 +18,9 @@ use Rattle.rules.proofs.SlopePixels.{visible-slopes}
 use Rattle.picture.specs.Shapes.{gridIn}
 use Rattle.picture.specs.declared.grid.Grid.{Grid}
 use Rattle.picture.proofs.Grids.{accepted}
-use Rattle.layers.specs.declared.Answer.{Answer}
-use Rattle.layers.specs.Says.{slopesFault, SlopesSay}
+use Rattle.answers.specs.declared.Answer.{Answer}
+use Rattle.answers.specs.Lines.{slopesFault}
+use Rattle.layers.specs.Says.{SlopesSay}
 use Rattle.layers.proofs.Sloping.{slopes-clear}
 
 -- A done drawing with slopes. `pixels`: "slopes from the tape run for the region that set the height equal those from

@@ -15,10 +15,11 @@ use Rattle.rules.proofs.Lines.{each-line}
 use Rattle.picture.specs.Shapes.{gridIn}
 use Rattle.picture.specs.declared.grid.Grid.{Grid}
 use Rattle.editions.specs.Sizes.{SlopesOf}
-use Rattle.layers.specs.declared.Answer.{Answer}
-use Rattle.refusals.specs.Lines.{lengthFault, slopeFault, workFault}
-use Rattle.layers.specs.Says.{slopeLines, slopesFault, SlopesSay}
-use Rattle.layers.proofs.Answers.{answer, refused-by, done-by}
+use Rattle.answers.specs.declared.Answer.{Answer}
+use Rattle.answers.specs.Lines.{lengthFault, slopeFault, workFault}
+use Rattle.answers.specs.Lines.{slopeLines, slopesFault}
+use Rattle.layers.specs.Says.{SlopesSay}
+use Rattle.answers.proofs.Ends.{answer, first-stage, refused-by, done-by}
 use Rattle.layers.proofs.Drawing.{when-zero, Clear, clear}
 
 -- The lines as the code has them.
@@ -51,7 +52,12 @@ module _ (s : List ℕ) (d : Grid) (o : List ℕ) (p : List ℤ) (w : List ℕ) 
   slopes-refused e k h q =
       let lines = slopeLines s (gridIn d true) (length o) (length p) (length w) in
       let z = ne-eqb (slopesFault s (gridIn d true) (length o) (length p) (length w)) 0 (λ y. h (k ∙ y)) in
-      record { answer = refused-by s lines refl e k h q; pixels = rw z; slopes = rw z; work = rw z }
+      record {
+        answer = refused-by s lines refl (first-stage s {found = lines} e k refl q) (λ y. h (k ∙ y));
+        pixels = rw z;
+        slopes = rw z;
+        work = rw z;
+      }
 
   -- Done: the walk's picture and count, the slopes at its heights, and the work buffer cleared.
   pub slopes-done : {o′ : List ℕ} {p′ : List ℤ} {w′ : List ℕ} {k : ℕ} {r : Answer} → r ≡ answer 0 0 k

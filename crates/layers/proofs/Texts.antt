@@ -23,7 +23,7 @@ use Rattle.formula_rules.proofs.FormulaNumbers.{of-read}
 use Rattle.formula_rules.proofs.FormulaValues.{tape-meaning}
 use Rattle.formula_rules.proofs.FormulaAccepted.{tree-read}
 use Rattle.formula.specs.Says.{tapeRoom, roomFault, answerFault, textFault, answerBytes, inFront, TextSays}
-use Rattle.layers.specs.declared.Answer.{Answer}
+use Rattle.answers.specs.declared.Answer.{Answer}
 use Rattle.layers.specs.Says.{TextAnswered}
 
 -- Every number fits a byte.

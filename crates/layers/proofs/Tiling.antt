@@ -15,10 +15,11 @@ use Rattle.rules.proofs.Lines.{each-line}
 use Rattle.picture.specs.Shapes.{gridIn}
 use Rattle.picture.specs.declared.grid.Grid.{Grid}
 use Rattle.editions.specs.Sizes.{TilesOf}
-use Rattle.layers.specs.declared.Answer.{Answer}
-use Rattle.refusals.specs.Lines.{lengthFault, workFault}
-use Rattle.layers.specs.Says.{tileLines, tileFault, TilesSay}
-use Rattle.layers.proofs.Answers.{answer, refused-by, done-by}
+use Rattle.answers.specs.declared.Answer.{Answer}
+use Rattle.answers.specs.Lines.{lengthFault, workFault}
+use Rattle.answers.specs.Lines.{tileLines, tileFault}
+use Rattle.layers.specs.Says.{TilesSay}
+use Rattle.answers.proofs.Ends.{answer, first-stage, refused-by, done-by}
 use Rattle.layers.proofs.Drawing.{Clear, clear}
 
 -- The lines as the code has them.
@@ -48,7 +49,11 @@ module _ (t : Bool) (s : List ℕ) (d : Grid) (o w : List ℕ) where
   tiles-refused e k h p =
       let lines = tileLines t s (gridIn d t) (length o) (length w) in
       let z = ne-eqb (tileFault t s (gridIn d t) (length o) (length w)) 0 (λ y. h (k ∙ y)) in
-      record { answer = refused-by s lines refl e k h p; pixels = rw z; work = rw z }
+      record {
+        answer = refused-by s lines refl (first-stage s {found = lines} e k refl p) (λ y. h (k ∙ y));
+        pixels = rw z;
+        work = rw z;
+      }
 
   -- Done: the walk's picture and count, and the work buffer cleared.
   pub tiles-done : {o′ w′ : List ℕ} {k : ℕ} {r : Answer} → r ≡ answer 0 0 k

@@ -1,15 +1,15 @@
 -- What the public calls promise: number, place, count and every lent byte, for all inputs.
 use mathlib.Core.Path.{_≡_}
-use mathlib.Core.Bool.{Bool, true, not}
-use mathlib.Core.List.{List, [], _∷_, _++_}
+use mathlib.Core.Bool.{Bool, true}
+use mathlib.Core.List.{List}
 use lib.IntN.{ℤ}
 use Prim.Native.Nat.{ℕ, _*_}
-use lib.Dec.{eqb, ltb}
+use lib.Dec.{eqb}
 use lib.ListN.{length, replicate}
-use Rattle.rules.specs.Values.{pick, firstFault, when}
-use Rattle.rules.specs.Tapes.{placeOf, readTape, readList, tapeBytes, listOf, allBytes}
+use Rattle.rules.specs.Values.{pick}
+use Rattle.rules.specs.Tapes.{readTape, readList, tapeBytes, listOf, allBytes}
 use Rattle.rules.specs.Drawings as D
-use Rattle.rules.specs.Pictures.{stride, picture, pictureSize, bitmapFile, heightFile}
+use Rattle.rules.specs.Pictures.{stride, picture, bitmapFile, heightFile}
 use Rattle.picture.specs.Shapes.{gridIn}
 use Rattle.picture.specs.declared.grid.Grid.{Grid}
 use Rattle.packing.specs.Packing.{copyFault}
@@ -21,22 +21,12 @@ use Rattle.rules.specs.Probes.{probeFault, probedValue}
 use Rattle.probe.specs.Points.{pointIn}
 use Rattle.probe.specs.Sides.{probeOf, sideNumber, sideValue}
 use Rattle.probe.specs.declared.point.Point.{Point}
-use Rattle.refusals.specs.Lines.{lengthFault, slopeFault, workFault}
-use Rattle.layers.specs.declared.Answer.{Answer}
+use Rattle.answers.specs.declared.Answer.{Answer}
+use Rattle.answers.specs.Lines.{drawFault, tileFault, slopesFault}
+use Rattle.answers.specs.Says.{Answered, written}
 use Rattle.layers.specs.declared.Listed.{Listed}
 use Rattle.layers.specs.declared.probing.Probed.{Probed}
 use Rattle.layers.specs.declared.probing.Sided.{Sided}
-
--- "A call returns number, place, count. Place is the clause index, from 0, in the tape or list at fault for 5 to 9,
--- otherwise 0. A number other than 0 has count 0".
-pub record Answered (n p c : ℕ) (r : Answer) : Type 0 where
-  pub number : r .number ≡ n
-  pub place : r .place ≡ placeOf n p
-  pub count : r .count ≡ pick (eqb n 0) c 0
-
--- "every lent byte unchanged. A 0 overwrites the whole picture or output".
-abbrev pub written : {A : Type 0} → ℕ → List A → List A → List A
-written f b o = pick (eqb f 0) b o
 
 pub record PackSays (n : ℕ) (zs : List ℤ) (o o′ : List ℕ) (r : Answer) : Type 0 where
   pub answer : let g = readList n zs in Answered (copyFault g (tapeBytes (g .tape)) o) (g .place) 0 r
@@ -67,20 +57,6 @@ BitmapSays w h p o o′ r = FileSays w h (h * stride w) p (bitmapFile w h p) o o
 abbrev pub HeightsSay : ℕ → ℕ → List ℕ → List ℕ → List ℕ → Answer → Type 0
 HeightsSay w h p o o′ r = FileSays w h (w * h) p (heightFile w h p) o o′ r
 
--- "Drawing checks 1 to 4, then 5 to 9 clause by clause, then 10 to 13 (in full, 10 to 12)": n is the picture's length,
--- m the work buffer's. Reading the tape has lines 1 to 9, the grid 10 and 11.
-abbrev pub drawLines : Bool → List ℕ → D.Grid → ℕ → List ℕ
-drawLines isSolid s g n = readTape s .number ∷ (D.gridFault isSolid g ∷ (lengthFault isSolid g n ∷ []))
-
-abbrev pub tileLines : Bool → List ℕ → D.Grid → ℕ → ℕ → List ℕ
-tileLines isSolid s g n m = drawLines isSolid s g n ++ (workFault m ∷ [])
-
-abbrev pub drawFault : Bool → List ℕ → D.Grid → ℕ → ℕ
-drawFault isSolid s g n = firstFault (drawLines isSolid s g n)
-
-abbrev pub tileFault : Bool → List ℕ → D.Grid → ℕ → ℕ → ℕ
-tileFault isSolid s g n m = firstFault (tileLines isSolid s g n m)
-
 -- The full drawing: the definition's picture and count.
 pub record FullSays (isSolid : Bool) (s : List ℕ) (d : Grid) (o o′ : List ℕ) (r : Answer) : Type 0 where
   pub answer : let g = gridIn d isSolid in
@@ -109,13 +85,6 @@ pub record SidedSays (s : List ℕ) (p : Point) (r : Sided) : Type 0 where
   pub answer : Answered (probeFault s (pointIn p)) (readTape s .place) 0 (r .answer)
   pub side : r .side ≡ sideNumber (probeOf (probeFault s (pointIn p)) (probedValue s (pointIn p)))
   pub value : r .value ≡ sideValue (probeOf (probeFault s (pointIn p)) (probedValue s (pointIn p)))
-
--- Lines 1 to 11, 12 for the picture and for the slopes, 13.
-abbrev pub slopeLines : List ℕ → D.Grid → ℕ → ℕ → ℕ → List ℕ
-slopeLines s g n m k = drawLines true s g n ++ (slopeFault g m ∷ (workFault k ∷ []))
-
-abbrev pub slopesFault : List ℕ → D.Grid → ℕ → ℕ → ℕ → ℕ
-slopesFault s g n m k = firstFault (slopeLines s g n m k)
 
 -- The solid drawing by tiles with slopes: picture, count and work buffer as without them; "three slopes per pixel at
 -- the visible sample", those of the full tape. "Slopes add nothing to the count."

@@ -4,6 +4,9 @@ mod probing;
 mod sloped;
 mod solid;
 
+pub use answers::Answer;
+pub use answers::lines::WORK_LIMIT;
+pub use answers::refused;
 pub use flat::draw_flat;
 pub use flat::tile_flat;
 use packing::pack;
@@ -12,48 +15,17 @@ pub use probing::Probed;
 pub use probing::Sided;
 pub use probing::probe;
 pub use probing::probe_side;
-pub use refusals::WORK_LIMIT;
 pub use sloped::tile_slopes;
 pub use solid::draw_solid;
 pub use solid::tile_solid;
-ghost use mathlib.Core.Path.{_≡_};
+ghost use Rattle.merge.specs.Says.{MergeSays};
 ghost use Rattle.layers.specs.Says.{PackSays, UnpackSays, BitmapSays, HeightsSay, TextAnswered};
-
-// The number of the paper's table, the clause at fault, and the clauses counted.
-#[repr(C)]
-pub struct Answer {
-    pub number: u8,
-    pub place: u32,
-    pub count: u64,
-}
 
 // The answer of unpacking, with the tape's slot count.
 #[repr(C)]
 pub struct Listed {
     pub answer: Answer,
     pub slots: u8,
-}
-
-// The answer of a call that counts nothing: a refused one, and any that draws no picture, with number 0 if it is done.
-pub fn refused(number: u8, place: u32) -> Answer
-    ensures { λ r. ⌜ r ≡ record { number = number; place = place; count = 0 } ⌝ }
-{
-    Answer {
-        number: number,
-        place: place,
-        count: 0,
-    }
-}
-
-// The answer of a drawing that is done.
-pub fn done(count: u64) -> Answer
-    ensures { λ r. ⌜ r ≡ record { number = 0; place = 0; count = count } ⌝ }
-{
-    Answer {
-        number: 0,
-        place: 0,
-        count: count,
-    }
 }
 
 pub fn pack_tape(slots: u32, list: &[i32], out: &mut [u8]) -> Answer
@@ -71,6 +43,12 @@ pub fn unpack_tape(tape: &[u8], out: &mut [i32]) -> Listed
         answer: refused(p.number, p.place),
         slots: p.slots,
     }
+}
+
+pub fn merge_tapes(first: &[u8], second: &[u8], out: &mut [u8]) -> Answer
+    ensures { λ r. ⌜ MergeSays (now (first .entry)) (now (second .entry)) (now (out .entry)) (now (out .exit)) r ⌝ }
+{
+    merge::merge_tapes(first, second, out)
 }
 
 pub fn write_bitmap(width: u32, height: u32, picture: &[u8], out: &mut [u8]) -> Answer

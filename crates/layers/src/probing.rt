@@ -1,6 +1,6 @@
 // A probe at a point: the formula's value there. Nothing is lent to be written.
-use crate::Answer;
-use crate::refused;
+use answers::Answer;
+use answers::refused;
 use probe::point::Point;
 use probe::probe_at;
 use probe::side::side_number;

@@ -1,16 +1,16 @@
 // The solid drawing by tiles with slopes. Checks and editions are as in `solid`.
-use crate::Answer;
-use crate::done;
-use crate::refused;
+use answers::Answer;
+use answers::done;
+use answers::first_fault;
+use answers::lines::length_fault;
+use answers::lines::slope_fault;
+use answers::lines::work_fault;
+use answers::refused;
 use editions::sloped::slope_few;
 use editions::sloped::slope_many;
 use picture::bits::clear;
 use picture::grid::Grid;
 use picture::grid::grid_fault;
-use refusals::first_fault;
-use refusals::length_fault;
-use refusals::slope_fault;
-use refusals::work_fault;
 use tape::FIRST_CLAUSES;
 use tape::FIRST_SLOTS;
 use tape_check::check_tape;

@@ -2,9 +2,12 @@
 // short arrays; one of edition 02 by a whole call of its own, in long ones. That call is large and stands at two places,
 // for the slots and for the clauses, so the compiler leaves it a function of its own: the short arrays' frame is all that
 // a tape of edition 01 takes.
-use crate::Answer;
-use crate::done;
-use crate::refused;
+use answers::Answer;
+use answers::done;
+use answers::first_fault;
+use answers::lines::length_fault;
+use answers::lines::work_fault;
+use answers::refused;
 use editions::solid::draw_few;
 use editions::solid::draw_many;
 use editions::solid::tile_few;
@@ -12,9 +15,6 @@ use editions::solid::tile_many;
 use picture::bits::clear;
 use picture::grid::Grid;
 use picture::grid::grid_fault;
-use refusals::first_fault;
-use refusals::length_fault;
-use refusals::work_fault;
 use tape::FIRST_CLAUSES;
 use tape::FIRST_SLOTS;
 use tape_check::check_tape;

@@ -6,6 +6,7 @@ use layers::Sided;
 use picture::grid::Grid;
 use probe::point::Point;
 ghost use mathlib.Core.Bool.{true, false};
+ghost use Rattle.merge.specs.Says.{MergeSays};
 ghost use Rattle.layers.specs.Says.{PackSays, UnpackSays, FullSays, TilesSay, BitmapSays, HeightsSay};
 ghost use Rattle.layers.specs.Says.{SidedSays, SlopesSay, TextAnswered};
 
@@ -21,6 +22,13 @@ pub extern "C" fn layers_unpack_tape(tape: &[u8], out: &mut [i32]) -> Listed
     ensures { λ r. ⌜ UnpackSays (now (tape .entry)) (now (out .entry)) (now (out .exit)) r ⌝ }
 {
     layers::unpack_tape(tape, out)
+}
+
+#[no_mangle]
+pub extern "C" fn layers_merge_tapes(first: &[u8], second: &[u8], out: &mut [u8]) -> Answer
+    ensures { λ r. ⌜ MergeSays (now (first .entry)) (now (second .entry)) (now (out .entry)) (now (out .exit)) r ⌝ }
+{
+    layers::merge_tapes(first, second, out)
 }
 
 #[no_mangle]

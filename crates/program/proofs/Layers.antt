@@ -17,9 +17,10 @@ use Rattle.rules.proofs.Lines.{each-line}
 use Rattle.picture.specs.Shapes.{gridIn}
 use Rattle.picture.specs.declared.grid.Grid.{Grid}
 use Rattle.picture.proofs.Grids.{accepted}
-use Rattle.refusals.specs.Lines.{lengthFault}
 use Rattle.netpbm.proofs.FileLaws.{Sides, short-head, length-bitmap, length-heights}
-use Rattle.layers.specs.declared.Answer.{Answer}
+use Rattle.answers.specs.declared.Answer.{Answer}
+use Rattle.answers.specs.Lines.{lengthFault, drawLines, tileFault}
+use Rattle.answers.specs.Says.{Answered, written}
 use Rattle.layers.specs.Says as Calls
 use Rattle.program.specs.declared.Drawn.{Drawn}
 use Rattle.program.specs.Says.{PictureFits, layerFault, FileSays}
@@ -59,10 +60,10 @@ pub record Lent (t : Bool) (d : Grid) (n m : ℕ) : Type 0 where
   pub work : D.workLimit ≤ m
 
 tile-fault : (t : Bool) (s : List ℕ) (d : Grid) (n m : ℕ) → Lent t d n m
-    → Calls.tileFault t s (gridIn d t) n m ≡ layerFault t s (gridIn d t)
+    → tileFault t s (gridIn d t) n m ≡ layerFault t s (gridIn d t)
 tile-fault t s d n m l =
     let g = gridIn d t in
-    ap (λ b. firstFault (Calls.drawLines t s g n ++ (when b 13 ∷ []))) (le-ltb m D.workLimit (l .work))
+    ap (λ b. firstFault (drawLines t s g n ++ (when b 13 ∷ []))) (le-ltb m D.workLimit (l .work))
     ∙ last-zero (readTape s .number) (D.gridFault t g) (lengthFault t g n)
     (λ e. ap (λ b. when (not b) 12) (eq-eqb n (pictureSize t g) (l .pixels e)))
 
@@ -113,12 +114,12 @@ tiled {n = n} {p} z w f e h k c =
 
 module _ {t : Bool} {s : List ℕ} {d : Grid} {n : ℕ} {z p w w′ : List ℕ} {a : Answer}
     (f : Tiled t s d n z p w w′ a) where
-  same : Calls.tileFault t s (gridIn d t) (length (take n z)) (length w) ≡ layerFault t s (gridIn d t)
+  same : tileFault t s (gridIn d t) (length (take n z)) (length w) ≡ layerFault t s (gridIn d t)
   same = tile-fault t s d (length (take n z)) (length w) (f .lent)
 
   -- The answer is the drawing's own, number, place and count.
   told : let g = gridIn d t in
-      Calls.Answered (layerFault t s g) (readTape s .place) (D.walked (readTape s .tape) g .clauses) a
+      Answered (layerFault t s g) (readTape s .place) (D.walked (readTape s .tape) g .clauses) a
   told = rw same at (f .says .answer)
 
   taken : a .number ≡ 0 → D.gridFault t (gridIn d t) ≡ 0
@@ -153,7 +154,7 @@ module _ {t : Bool} {s : List ℕ} {d : Grid} {n : ℕ} {z p w w′ : List ℕ} 
       let made-of : x ≡ fileIn t g (take n (p ++ drop n z))
       = made (sided i) (f .back .size ∙ pixels i ∙ sym v) (length-take-le (r .length) o j ∙ l) u in
       let drawn : p ≡ picture t g (c .heights)
-      = f .says .pixels ∙ ap (λ v. Calls.written v (picture t g (c .heights)) (take n z)) (same ∙ k) in
+      = f .says .pixels ∙ ap (λ v. written v (picture t g (c .heights)) (take n z)) (same ∙ k) in
       let file : x ≡ fileOf g (c .heights)
       = made-of ∙ ap (fileIn t g) (f .back .same ∙ drawn) ∙ file-of t g (c .heights) (accepted d t (taken i) .kind) in
       let size : r .length ≡ length (fileOf g (c .heights)) = l ∙ ap length (sym made-of ∙ file) in

@@ -12,7 +12,7 @@ use Rattle.rules.specs.Pictures.{pictureSize}
 use Rattle.program_rules.specs.Program.{tapeAfter, gridRecord, programFault, fileOf, Output, programOf}
 use Rattle.picture.specs.Shapes.{gridIn}
 use Rattle.picture.specs.declared.grid.Grid.{Grid}
-use Rattle.layers.specs.Says.{Answered}
+use Rattle.answers.specs.Says.{Answered}
 use Rattle.program.specs.declared.Drawn.{Drawn}
 use Rattle.program.specs.declared.Said.{Said}
 

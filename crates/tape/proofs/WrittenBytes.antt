@@ -22,11 +22,11 @@ use Rattle.tape.proofs.FieldValues.{Kept, kept, kept-is}
 pub pair-stored : (l : List ℕ) (i a b : ℕ) → set (set l i a) (i + 1) b ≡ sets l i (a ∷ (b ∷ []))
 pair-stored l i a b = ap (λ k. set (set l i a) k b) (add-one i)
 
-runs : (vs ws l : List ℕ) (i j : ℕ) → j ≡ i + length vs → sets (sets l i vs) j ws ≡ sets l i (vs ++ ws)
+pub runs : (vs ws l : List ℕ) (i j : ℕ) → j ≡ i + length vs → sets (sets l i vs) j ws ≡ sets l i (vs ++ ws)
 runs [] ws l i j e = let f : j ≡ i = omega arith in ap (λ k. sets l k ws) f
 runs (v ∷ vs) ws l i j e = runs vs ws _ (suc i) j (omega arith)
 
-and-then : (l m n vs ws : List ℕ) (i j : ℕ) → m ≡ sets l i vs → n ≡ sets m j ws → j ≡ i + length vs
+pub and-then : (l m n vs ws : List ℕ) (i j : ℕ) → m ≡ sets l i vs → n ≡ sets m j ws → j ≡ i + length vs
     → n ≡ sets l i (vs ++ ws)
 and-then l m n vs ws i j p q e = q ∙ ap (λ x. sets x j ws) p ∙ runs vs ws l i j e
 

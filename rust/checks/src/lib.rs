@@ -7,7 +7,7 @@ pub mod files;
 pub mod grammar;
 pub mod grids;
 pub mod lists;
-pub mod merge;
+pub mod merging;
 pub mod order;
 pub mod packing;
 pub mod plate;

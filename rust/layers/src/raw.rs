@@ -98,6 +98,14 @@ pub const TEXT_TAPE: usize = 10_248;
 unsafe extern "C" {
     fn layers_pack_tape(slots: u32, list: *const i32, list_len: usize, out: *mut u8, out_len: usize) -> Answer;
     fn layers_unpack_tape(tape: *const u8, tape_len: usize, out: *mut i32, out_len: usize) -> Listed;
+    fn layers_merge_tapes(
+        first: *const u8,
+        first_len: usize,
+        second: *const u8,
+        second_len: usize,
+        out: *mut u8,
+        out_len: usize,
+    ) -> Answer;
     fn layers_draw_flat(tape: *const u8, tape_len: usize, grid: Grid, picture: *mut u8, picture_len: usize) -> Answer;
     fn layers_draw_solid(tape: *const u8, tape_len: usize, grid: Grid, picture: *mut u16, picture_len: usize)
     -> Answer;
@@ -161,6 +169,21 @@ pub fn pack_tape(slots: u32, list: &[i32], out: &mut [u8]) -> Answer {
 /// Unpacks a tape into a list, five numbers to a clause.
 pub fn unpack_tape(tape: &[u8], out: &mut [i32]) -> Listed {
     unsafe { layers_unpack_tape(tape.as_ptr(), tape.len(), out.as_mut_ptr(), out.len()) }
+}
+
+/// Two tapes into one of 8 + 10 bytes for each clause of both and for a minimum, the smaller of the two values at every
+/// sample. The place is the clause in whichever tape failed.
+pub fn merge_tapes(first: &[u8], second: &[u8], out: &mut [u8]) -> Answer {
+    unsafe {
+        layers_merge_tapes(
+            first.as_ptr(),
+            first.len(),
+            second.as_ptr(),
+            second.len(),
+            out.as_mut_ptr(),
+            out.len(),
+        )
+    }
 }
 
 /// The flat drawing in full: `width` / 8 bytes, rounded up, a row.

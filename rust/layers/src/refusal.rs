@@ -78,9 +78,9 @@ const GREATEST: i32 = i32::MAX;
 refusals! {
     /// A line of the core's table of refusals, in the table's order. Clauses are counted from 0.
     ///
-    /// A [`Tape`](crate::Tape) meets lines 1 to 9, or as text 17 to 19, a drawing of it 10 and 11, a probe 20. Lines 12
-    /// to 14 are about lent memory, so only the calls of [`raw`](crate::raw) meet them, and 15 and 16 are about the
-    /// input of the program `drawlayer`.
+    /// A [`Tape`](crate::Tape) meets lines 1 to 9, or as text 17 to 19, a drawing of it 10 and 11, a probe 20, a union
+    /// 21. Lines 12 to 14 are about lent memory, so only the calls of [`raw`](crate::raw) meet them, and 15 and 16 are
+    /// about the input of the program `drawlayer`.
     ///
     /// ```
     /// use layers::{Refusal, Tape};
@@ -122,7 +122,7 @@ refusals! {
          a heightmap one height for each pixel, slopes three numbers for each pixel";
     13 WorkLength, "work buffer below 32,768 bytes",
         "the work buffer is too short: it needs {WORK} bytes";
-    14 OutputLength, "packing, unpacking, text or file: output not of the exact length",
+    14 OutputLength, "packing, unpacking, merging, text or file: output not of the exact length",
         "the output buffer has the wrong length: it must be that of the tape, list or file to be written, for a text's \
          tape {TEXT_TAPE}";
     15 NoGridRecord, "program: input below 32 bytes or grid mark wrong",
@@ -139,6 +139,9 @@ refusals! {
          more than {FIRST_EDITION_SLOTS} slots, one for each operand that waits: split the part";
     20 CoordinateOutOfRange, "probe: a coordinate not a number, infinite, or above 32,767 in magnitude",
         "each coordinate of a point must be a number from -32767 to 32767";
+    21 LargeUnion, "merging: a result of more than 6,144 clauses, the minimum counted, or of more than 128 slots",
+        "one tape of two has the clauses of both and a minimum, at most {MAX_CLAUSES}, and the slots of both, at most \
+         {MAX_SLOTS}: use slots again, or draw the parts one by one";
 }
 
 impl Error for Refusal {}
@@ -235,6 +238,8 @@ mod tests {
         assert_eq!([(5, 18), (6, 17), (6, 6)].map(|(p, s)| sloped(p, s, 0)), [Err(Refusal::PictureLength); 3]);
         assert_eq!(sloped(6, 18, WORK - 1), Err(Refusal::WorkLength));
         assert_eq!(raw::unpack_tape(tape.as_bytes(), &mut [0; 4]).answer.into_result(), Err(Refusal::OutputLength));
+        let merge = |len: usize| raw::merge_tapes(tape.as_bytes(), tape.as_bytes(), &mut vec![0; len]).into_result();
+        assert_eq!([37, 38, 39].map(merge), [Err(Refusal::OutputLength), Ok(0), Err(Refusal::OutputLength)]);
     }
 
     #[test]

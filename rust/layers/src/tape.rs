@@ -77,7 +77,7 @@ impl Tape {
 
     /// The tape of a list, five numbers to a clause: opcode, out, left, right, constant.
     pub fn from_list(slots: u8, list: &[i32]) -> Result<Tape, Refusal> {
-        let len = HEAD_BYTES + CLAUSE_BYTES * (list.len() / LIST_NUMBERS);
+        let len = Tape::byte_count(list.len() / LIST_NUMBERS);
         let (bytes, _) = filled(len, |out| raw::pack_tape(slots.into(), list, out))?;
         Ok(Tape { bytes })
     }
@@ -90,8 +90,18 @@ impl Tape {
 
     /// The tape that the core has written to the front of these bytes.
     pub(crate) fn written(mut bytes: Vec<u8>) -> Tape {
-        bytes.truncate(HEAD_BYTES + CLAUSE_BYTES * counted(&bytes));
+        bytes.truncate(Tape::byte_count(counted(&bytes)));
         Tape { bytes }
+    }
+
+    /// The bytes of a tape of so many clauses.
+    pub(crate) fn byte_count(clauses: usize) -> usize {
+        HEAD_BYTES + CLAUSE_BYTES * clauses
+    }
+
+    /// The clauses that the head counts.
+    pub(crate) fn clause_count(&self) -> usize {
+        counted(&self.bytes)
     }
 
     /// The list, five numbers to a clause.

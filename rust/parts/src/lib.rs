@@ -98,7 +98,12 @@ fn input(grid: Grid, tape: &Tape) -> Vec<u8> {
     bytes
 }
 
+/// The example parts of one design each, which the benchmark draws.
+pub fn designed() -> Vec<Part> {
+    examples::designs().iter().map(Design::part).collect()
+}
+
 /// Every example part.
 pub fn all() -> Vec<Part> {
-    examples::designs().iter().map(Design::part).collect()
+    designed().into_iter().chain([examples::plate()]).collect()
 }

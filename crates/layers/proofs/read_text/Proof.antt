@@ -1,5 +1,5 @@
 -- Reading a text, with the place and the count of a call that reads no tape and draws nothing.
-use Rattle.layers.proofs.Answers.{unplaced}
+use Rattle.answers.proofs.Ends.{unplaced}
 use Rattle.layers.proofs.Texts.{fits-byte}
 use borrow.Author.Needs.{needs}
 use Rattle.layers.proofs.read_text.Statement.{statement}

@@ -1,5 +1,5 @@
 -- The bitmap file, with the place and the count of a call that reads no tape and draws nothing.
-use Rattle.layers.proofs.Answers.{unplaced}
+use Rattle.answers.proofs.Ends.{unplaced}
 use borrow.Author.Needs.{needs}
 use Rattle.layers.proofs.write_bitmap.Statement.{statement}
 use Rattle.layers.proofs.write_bitmap.Tie as tie

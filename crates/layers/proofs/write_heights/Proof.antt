@@ -1,5 +1,5 @@
 -- The height file, with the place and the count of a call that reads no tape and draws nothing.
-use Rattle.layers.proofs.Answers.{unplaced}
+use Rattle.answers.proofs.Ends.{unplaced}
 use borrow.Author.Needs.{needs}
 use Rattle.layers.proofs.write_heights.Statement.{statement}
 use Rattle.layers.proofs.write_heights.Tie as tie

@@ -1,7 +1,6 @@
 //! The inputs of the later calls, by the slow side alone: those that should be accepted are, the others meet every line
 //! of their call, and each planted fault shows in some of them.
 
-use checks::merge::Merging;
 use checks::order::Ordered;
 use checks::plate::{self, Changing};
 use checks::random::Random;
@@ -13,7 +12,7 @@ use slow::call::Answer;
 use slow::fault::{self, Plant};
 use slow::plate::{PLACE, PLACES, afresh};
 use slow::reason::Reason;
-use slow::{merge, order, plate as slow_plate, reason, swept, table as slow_table};
+use slow::{order, plate as slow_plate, reason, swept, table as slow_table};
 use std::collections::BTreeSet;
 use std::fmt::Debug;
 
@@ -49,20 +48,6 @@ fn all_show<F: Plant + Debug, C>(
         let shows = (0..cases).any(|i| compare(&of[i % of.len()](&mut r), &mut noise, fault).is_err());
         assert!(shows, "{fault:?} does not show");
     }
-}
-
-fn merging(case: &Merging, noise: &mut Random, fault: Option<merge::Fault>) -> Result<Answer, String> {
-    case.compare(noise, |first, second, out| raw(planted(fault, || merge::merge_tapes(first, second, out))))
-}
-
-#[test]
-fn two_tapes() {
-    let number = |case: &Merging, noise: &mut Random| merging(case, noise, None).expect("the same call").number;
-    assert_eq!(met(300, Merging::random, number), [0, 21]);
-    assert_eq!(met(60, Merging::limits, number), [0, 21]);
-    assert_eq!(met(3_000, Merging::damaged, number), [0, 1, 2, 3, 4, 5, 6, 7, 8, 9, 14, 21]);
-    let kinds = [Merging::random, Merging::limits, Merging::damaged];
-    all_show(merge::Fault::ALL, 300, &kinds, |case, noise, fault| merging(case, noise, Some(fault)).map(drop));
 }
 
 fn ordered(case: &Ordered, noise: &mut Random, fault: Option<order::Fault>) -> Result<Answer, String> {

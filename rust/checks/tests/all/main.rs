@@ -8,6 +8,7 @@ mod faults;
 mod figures;
 mod inputs;
 mod lanes;
+mod merging;
 mod probe;
 mod program;
 mod refusals;

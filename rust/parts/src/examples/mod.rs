@@ -8,9 +8,11 @@ mod gear;
 mod housing;
 mod lattice;
 mod lettering;
+mod plate;
 mod tray;
 
 use crate::Design;
+pub use plate::plate;
 
 pub fn designs() -> Vec<Design> {
     vec![

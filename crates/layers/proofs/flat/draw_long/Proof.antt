@@ -3,7 +3,7 @@ use mathlib.Core.Path.{_≡_, sym, _∙_}
 use mathlib.Core.Bool.{false}
 use lib.ListN.{length}
 use Rattle.picture.specs.Shapes.{gridIn}
-use Rattle.layers.specs.Says.{drawFault}
+use Rattle.answers.specs.Lines.{drawFault}
 use Rattle.layers.proofs.Drawing.{draw-lines, Clear, clear, draws}
 use Rattle.layers.proofs.Drawing.{full-refused, full-done}
 use borrow.Author.Needs.{needs}

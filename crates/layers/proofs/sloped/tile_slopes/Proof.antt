@@ -4,7 +4,7 @@ use mathlib.Core.Path.{_≡_, sym, ap, _∙_}
 use mathlib.Core.Bool.{true}
 use lib.ListN.{length, replicate}
 use Rattle.picture.specs.Shapes.{gridIn}
-use Rattle.layers.specs.Says.{slopesFault}
+use Rattle.answers.specs.Lines.{slopesFault}
 use Rattle.layers.proofs.Drawing.{draws, draws-few}
 use Rattle.layers.proofs.Sloping.{slope-lines, SlopesClear, slopes-clear}
 use Rattle.layers.proofs.Sloping.{slopes-refused, slopes-done}

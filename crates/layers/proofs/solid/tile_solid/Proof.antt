@@ -3,7 +3,7 @@ use mathlib.Core.Path.{_≡_, sym, ap, _∙_}
 use mathlib.Core.Bool.{true}
 use lib.ListN.{length, replicate}
 use Rattle.picture.specs.Shapes.{gridIn}
-use Rattle.layers.specs.Says.{tileFault}
+use Rattle.answers.specs.Lines.{tileFault}
 use Rattle.layers.proofs.Drawing.{draws, draws-few}
 use Rattle.layers.proofs.Tiling.{tile-lines, TilesClear, tiles-clear}
 use Rattle.layers.proofs.Tiling.{tiles-refused, tiles-done}

@@ -1,2 +1,0 @@
--- The lines of a call that are about lengths.
-pub mod Lines
