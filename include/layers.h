@@ -2,8 +2,8 @@
  * Lezantsiro: the layer core's calls for C.
  *
  * A buffer is a pointer and its length in elements, and stays the caller's: a call keeps no pointer, allocates nothing
- * and uses less than 64 KiB of stack on a tape of edition 01, less than 320 KiB on one of edition 02. (Edition
- * 02 is for tapes that 01 cannot hold: more than 64 slots, up to 128, or more than 1,024 clauses, up to 6,144.)
+ * and uses at most 256 KiB of stack, whatever the tape: the drawings by tiles up to that, every other call less than 64
+ * KiB.
  *
  * The calls are proved in a language that knows four things of every buffer of a call. C knows none of them, so the
  * caller sees to each, also where the length is 0 and where the call is refused; else nothing that is proved holds:

@@ -38,6 +38,14 @@ pub overwritten : {A : Type 0} (lines : List ℕ) (o : List A) {b o′ : List A}
     → o′ ≡ written (firstFault lines) b o
 overwritten lines o z e = e ∙ rw (eq-eqb (firstFault lines) 0 z)
 
+-- What a call's checks come to says whether one of its lines holds.
+module _ (lines s : List ℕ) {r : Answer} (e : r ≡ checkedBy lines s) where
+  pub no-line : r .number ≡ 0 → firstFault lines ≡ 0
+  no-line z = sym (ap (λ (a : Answer). a .number) e) ∙ z
+
+  pub some-line : (r .number ≡ 0 → ⊥) → firstFault lines ≡ 0 → ⊥
+  some-line k z = k (ap (λ (a : Answer). a .number) e ∙ z)
+
 -- A tape that is accepted has no place, and one that is not has its own with its own number.
 module _ (s lines : List ℕ) (h : getD lines 0 0 ≡ readTape s .number) where
   no-place : (n : ℕ) → readTape s .number ≡ 0 → readTape s .place ≡ placeOf n (readTape s .place)
@@ -61,10 +69,10 @@ module _ (s lines : List ℕ) (h : getD lines 0 0 ≡ readTape s .number) where
           ∙ ap (λ m. placeOf m (readTape s .place)) (sym (own-place lines refl (λ z. omega arith)))
 
   -- A call whose first line is the tape's: what its checks come to is its answer where it is refused.
-  pub refused-by : {c : ℕ} {r : Answer} → r ≡ checkedBy lines s → (firstFault lines ≡ 0 → ⊥)
+  pub refused-by : {c : ℕ} {r : Answer} → r ≡ checkedBy lines s → (r .number ≡ 0 → ⊥)
       → Answered (firstFault lines) (readTape s .place) c r
   refused-by e k =
-      let z = ne-eqb (firstFault lines) 0 k in
+      let z = ne-eqb (firstFault lines) 0 (some-line lines s e k) in
       rw e (record { number = refl; place = tape-place; count = rw z })
 
 pub done-by : (lines : List ℕ) {c k p : ℕ} {r : Answer} → r ≡ answer 0 0 k → firstFault lines ≡ 0 → k ≡ c

@@ -1,7 +1,8 @@
 -- The lines of a drawing: those about the lengths of what is lent, and all of them in their order.
+use mathlib.Core.Path.{_≡_}
 use mathlib.Core.Bool.{Bool, true, not}
 use mathlib.Core.List.{List, [], _∷_, _++_}
-use Prim.Native.Nat.{ℕ, _*_}
+use Prim.Native.Nat.{ℕ, _*_, _≤_}
 use lib.Dec.{eqb, ltb}
 use Rattle.rules.specs.Values.{when, firstFault}
 use Rattle.rules.specs.Tapes.{readTape}
@@ -42,3 +43,20 @@ tileFault isSolid s g n m = firstFault (tileLines isSolid s g n m)
 
 abbrev pub slopesFault : List ℕ → D.Grid → ℕ → ℕ → ℕ → ℕ
 slopesFault s g n m k = firstFault (slopeLines s g n m k)
+
+-- What is asked of a drawing that no line refuses: the tape and the grid are accepted, and the picture's length is the
+-- grid's.
+pub record Draws (isSolid : Bool) (s : List ℕ) (g : D.Grid) (n : ℕ) : Type 0 where
+  pub read : readTape s .number ≡ 0
+  pub grid : D.gridFault isSolid g ≡ 0
+  pub size : n ≡ pictureSize isSolid g
+
+-- The same of a drawing by tiles, m the work buffer's length; and of one with slopes, m their length and k the work
+-- buffer's.
+pub record DrawsByTiles (isSolid : Bool) (s : List ℕ) (g : D.Grid) (n m : ℕ) : Type 0 where
+  pub drawing : Draws isSolid s g n
+  pub work : D.workLimit ≤ m
+
+pub record DrawsSlopes (s : List ℕ) (g : D.Grid) (n m k : ℕ) : Type 0 where
+  pub tiles : DrawsByTiles true s g n k
+  pub slopes : m ≡ 3 * (g .width * g .height)

@@ -12,7 +12,7 @@ use lib.Seq.{length-take-le}
 use borrow.Author.Tests.{eq-eqb, ne-eqb, le-leb, lt-leb}
 use Rattle.rules.specs.Values.{pick, firstOf, when}
 use Rattle.rules.specs.Tapes.{Got as Read-tape, good, readList, tapeBytes}
-use Rattle.packing.specs.Packing.{bytesOf, copyFault, Copies}
+use Rattle.packing.specs.Packing.{bytesOf, Copies}
 use Rattle.packing.specs.declared.Packed.{Packed}
 use Rattle.packing.proofs.Packing.{length-tape}
 use Rattle.formula_rules.specs.Trees.{Tree}
@@ -25,12 +25,14 @@ use Rattle.formula_rules.proofs.FormulaNumbers.{of-read}
 use Rattle.formula_rules.proofs.FormulaItems.{text-read, text-left}
 use Rattle.formula_rules.proofs.FormulaSheets.{TapeOn, sheet-tape}
 use Rattle.formula_rules.proofs.FormulaAccepted.{sheet-read}
+use Rattle.promises.proofs.Texts.{text-byte}
 use Rattle.formula.specs.declared.sheet.Cursor.{Cursor}
 use Rattle.formula.specs.Cursors.{sheetOn}
 use Rattle.formula.specs.declared.parts.Stop.{Stop}
 use Rattle.formula.specs.declared.parts.Stop.the-variants as stop
 use Rattle.formula.specs.Parts.{Got, answerOf}
-use Rattle.formula.specs.Says.{tapeRoom, roomFault, answerFault, textFault, answerBytes, inFront, TextSays}
+use Rattle.promises.specs.Faults.{copyFault, tapeRoom, roomFault, answerFault, textFault, answerBytes, inFront}
+use Rattle.formula.specs.Says.{TextSays}
 use Rattle.formula.specs.Texts.{GotText, CanPack}
 
 -- Where the text begins.
@@ -134,6 +136,10 @@ says-refused : (text o : List ℕ) (n : ℕ) → eqb n 0 ≡ false → textFault
 says-refused text o n h f =
     let b = inFront (answerBytes (reader text)) o in
     record { number = sym f; out = sym (ap (λ k. pick (eqb k 0) b o) f ∙ ap (λ t. pick t b o) h) }
+
+-- Every number fits a byte.
+pub fits-byte : {text o o′ : List ℕ} {n : ℕ} → TextSays text o o′ n → n < 256
+fits-byte {text} {o} f = omega (arith, f .number, text-byte text o)
 
 pub refused-length : (text o : List ℕ) → length o ≢ tapeRoom → TextSays text o o 14
 refused-length text o h =

@@ -14,7 +14,7 @@ use Rattle.formula.specs.declared.parts.Read.{Read}
 use Rattle.formula.specs.declared.parts.Read.the-variants as read
 use Rattle.formula.specs.Cursors.{sheetOn}
 use Rattle.formula.specs.Parts.{answerOf}
-use Rattle.formula.specs.Says.{tapeRoom}
+use Rattle.promises.specs.Faults.{tapeRoom}
 
 -- The text was read as a tree, and the tree's clauses were written on a blank sheet, whatever its array held; or the
 -- reader stopped.

@@ -15,7 +15,8 @@ ghost use Prim.Native.Nat.{_*_};
 ghost use lib.ListN.{length, take};
 ghost use Rattle.packing.specs.Packing.{bytesOf};
 ghost use Rattle.formula.specs.Parts.{answerOf};
-ghost use Rattle.formula.specs.Says.{answerFault, inFront, TextSays};
+ghost use Rattle.promises.specs.Faults.{answerFault, inFront};
+ghost use Rattle.formula.specs.Says.{TextSays};
 ghost use Rattle.formula.specs.Texts.{ReadsText, CanPack};
 
 // "The lent buffer has 10,248 bytes, else 14 comes first."

@@ -1,48 +1,65 @@
-// The public calls. Each checks what it is lent, in the scope paper's order, and then calls.
-mod flat;
-mod probing;
-mod sloped;
-mod solid;
-
+// The public calls, each the call of its own crate. What they promise is in `crates/promises/specs/Says.antt`.
 pub use answers::Answer;
 pub use answers::lines::WORK_LIMIT;
-pub use answers::refused;
-pub use flat::draw_flat;
-pub use flat::tile_flat;
-use packing::pack;
-use packing::unpack;
-pub use probing::Probed;
-pub use probing::Sided;
-pub use probing::probe;
-pub use probing::probe_side;
-pub use sloped::tile_slopes;
-pub use solid::draw_solid;
-pub use solid::tile_solid;
-ghost use Rattle.merge.specs.Says.{MergeSays};
-ghost use Rattle.layers.specs.Says.{PackSays, UnpackSays, BitmapSays, HeightsSay, TextAnswered};
-
-// The answer of unpacking, with the tape's slot count.
-#[repr(C)]
-pub struct Listed {
-    pub answer: Answer,
-    pub slots: u8,
-}
+use picture::grid::Grid;
+pub use promises::Listed;
+pub use promises::Point;
+pub use promises::Probe;
+pub use promises::Probed;
+pub use promises::Sided;
+ghost use mathlib.Core.Bool.{true, false};
+ghost use Rattle.promises.specs.Says.{PackSays, UnpackSays, FullSays, TilesSay, SlopesSay, BitmapSays, HeightsSay};
+ghost use Rattle.promises.specs.Says.{ProbeSays, SidedSays, MergeSays, TextAnswered};
 
 pub fn pack_tape(slots: u32, list: &[i32], out: &mut [u8]) -> Answer
     ensures { λ r. ⌜ PackSays slots (now (list .entry)) (now (out .entry)) (now (out .exit)) r ⌝ }
 {
-    let p = pack(slots, list, out);
-    refused(p.number, p.place)
+    packing::call::pack_tape(slots, list, out)
 }
 
 pub fn unpack_tape(tape: &[u8], out: &mut [i32]) -> Listed
     ensures { λ r. ⌜ UnpackSays (now (tape .entry)) (now (out .entry)) (now (out .exit)) r ⌝ }
 {
-    let p = unpack(tape, out);
-    Listed {
-        answer: refused(p.number, p.place),
-        slots: p.slots,
-    }
+    packing::call::unpack_tape(tape, out)
+}
+
+pub fn draw_flat(tape: &[u8], grid: Grid, picture: &mut [u8]) -> Answer
+    ensures { λ r. ⌜ FullSays false (now (tape .entry)) grid (now (picture .entry)) (now (picture .exit)) r ⌝ }
+{
+    flat_drawing::draw_flat(tape, grid, picture)
+}
+
+pub fn draw_solid(tape: &[u8], grid: Grid, picture: &mut [u16]) -> Answer
+    ensures { λ r. ⌜ FullSays true (now (tape .entry)) grid (now (picture .entry)) (now (picture .exit)) r ⌝ }
+{
+    solid_drawing::draw_solid(tape, grid, picture)
+}
+
+pub fn tile_flat(tape: &[u8], grid: Grid, picture: &mut [u8], work: &mut [u8]) -> Answer
+    ensures { λ r. ⌜ TilesSay false (now (tape .entry)) grid (now (picture .entry)) (now (picture .exit))
+        (now (work .entry)) (now (work .exit)) r ⌝ }
+{
+    flat_drawing::tile_flat(tape, grid, picture, work)
+}
+
+pub fn tile_solid(tape: &[u8], grid: Grid, picture: &mut [u16], work: &mut [u8]) -> Answer
+    ensures { λ r. ⌜ TilesSay true (now (tape .entry)) grid (now (picture .entry)) (now (picture .exit))
+        (now (work .entry)) (now (work .exit)) r ⌝ }
+{
+    solid_drawing::tile_solid(tape, grid, picture, work)
+}
+
+pub fn tile_slopes(
+    tape: &[u8],
+    grid: Grid,
+    picture: &mut [u16],
+    slopes: &mut [i32],
+    work: &mut [u8],
+) -> Answer
+    ensures { λ r. ⌜ SlopesSay (now (tape .entry)) grid (now (picture .entry)) (now (picture .exit))
+        (now (slopes .entry)) (now (slopes .exit)) (now (work .entry)) (now (work .exit)) r ⌝ }
+{
+    slope_drawing::tile_slopes(tape, grid, picture, slopes, work)
 }
 
 pub fn merge_tapes(first: &[u8], second: &[u8], out: &mut [u8]) -> Answer
@@ -54,17 +71,29 @@ pub fn merge_tapes(first: &[u8], second: &[u8], out: &mut [u8]) -> Answer
 pub fn write_bitmap(width: u32, height: u32, picture: &[u8], out: &mut [u8]) -> Answer
     ensures { λ r. ⌜ BitmapSays width height (now (picture .entry)) (now (out .entry)) (now (out .exit)) r ⌝ }
 {
-    refused(netpbm::file::write_bitmap(width, height, picture, out), 0)
+    netpbm::call::write_bitmap(width, height, picture, out)
 }
 
 pub fn write_heights(width: u32, height: u32, picture: &[u16], out: &mut [u8]) -> Answer
     ensures { λ r. ⌜ HeightsSay width height (now (picture .entry)) (now (out .entry)) (now (out .exit)) r ⌝ }
 {
-    refused(netpbm::file::write_heights(width, height, picture, out), 0)
+    netpbm::call::write_heights(width, height, picture, out)
+}
+
+pub fn probe(tape: &[u8], point: Point) -> Probed
+    ensures { λ r. ⌜ ProbeSays (now (tape .entry)) point r ⌝ }
+{
+    probe::call::probe(tape, point)
+}
+
+pub fn probe_side(tape: &[u8], point: Point) -> Sided
+    ensures { λ r. ⌜ SidedSays (now (tape .entry)) point r ⌝ }
+{
+    probe::call::probe_side(tape, point)
 }
 
 pub fn read_text(text: &[u8], out: &mut [u8]) -> Answer
     ensures { λ r. ⌜ TextAnswered (now (text .entry)) (now (out .entry)) (now (out .exit)) r ⌝ }
 {
-    refused(formula::read_text::read_text(text, out) as u8, 0)
+    formula::call::read_text(text, out)
 }

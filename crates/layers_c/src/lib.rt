@@ -1,14 +1,13 @@
 // The public calls for C and Rust: a slice is a pointer and then a length. Each promises what the call that it wraps
 // does.
-use layers::Answer;
-use layers::Listed;
-use layers::Sided;
+use answers::Answer;
 use picture::grid::Grid;
-use probe::point::Point;
+use promises::Listed;
+use promises::Point;
+use promises::Sided;
 ghost use mathlib.Core.Bool.{true, false};
-ghost use Rattle.merge.specs.Says.{MergeSays};
-ghost use Rattle.layers.specs.Says.{PackSays, UnpackSays, FullSays, TilesSay, BitmapSays, HeightsSay};
-ghost use Rattle.layers.specs.Says.{SidedSays, SlopesSay, TextAnswered};
+ghost use Rattle.promises.specs.Says.{PackSays, UnpackSays, FullSays, TilesSay, BitmapSays, HeightsSay};
+ghost use Rattle.promises.specs.Says.{SidedSays, SlopesSay, MergeSays, TextAnswered};
 
 #[no_mangle]
 pub extern "C" fn layers_pack_tape(slots: u32, list: &[i32], out: &mut [u8]) -> Answer

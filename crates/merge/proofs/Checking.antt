@@ -18,7 +18,8 @@ use Rattle.merge_rules.specs.Merging.{fitsMerged, mergedBytes, mergeLines, merg
 use Rattle.merge_rules.proofs.MergedTapes.{merged-length}
 use Rattle.merge_rules.proofs.MergeCalls.{merge-order, first-clause, second-clause, merge-clear}
 use Rattle.merge.specs.Copies.{Writable}
-use Rattle.merge.specs.Says.{limitLine, lengthLine, MergeSays}
+use Rattle.promises.specs.Says.{MergeSays}
+use Rattle.merge.specs.Lines.{limitLine, lengthLine}
 
 -- Lines 21 and 14.
 module _ (k l n m : ℕ) where

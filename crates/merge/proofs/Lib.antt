@@ -2,4 +2,3 @@
 pub mod Raising
 pub mod Copying
 pub mod Checking
-pub mod Shown

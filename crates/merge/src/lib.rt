@@ -16,7 +16,8 @@ use write::write_merged;
 ghost use mathlib.Core.Path.{_≡_};
 ghost use Rattle.rules.specs.Values.{pick};
 ghost use lib.Dec.{eqb};
-ghost use Rattle.merge.specs.Says.{limitLine, lengthLine, MergeSays};
+ghost use Rattle.promises.specs.Says.{MergeSays};
+ghost use Rattle.merge.specs.Lines.{limitLine, lengthLine};
 
 // Line 21: the clauses of the result, the minimum counted, and its slots.
 fn limit_fault(one: Checked, two: Checked) -> u8

@@ -1,21 +1,14 @@
--- What the two calls promise that make a file's bytes from a picture.
+-- What the two functions promise that make a file's bytes from a picture.
 use mathlib.Core.Path.{_≡_}
-use mathlib.Core.Bool.{not}
-use mathlib.Core.List.{List, [], _∷_}
+use mathlib.Core.List.{List}
 use Prim.Native.Nat.{ℕ, _*_}
 use lib.Dec.{eqb}
-use lib.ListN.{length}
-use Rattle.rules.specs.Values.{pick, firstFault, when}
-use Rattle.rules.specs.Pictures.{stride, sidesOk, bitmapFile, heightFile}
+use Rattle.rules.specs.Values.{pick}
+use Rattle.rules.specs.Pictures.{stride, bitmapFile, heightFile}
+use Rattle.promises.specs.Faults.{fileFault}
 
--- "file making 10, 12, 14": n is the picture's length as it must be, b the file.
-abbrev pub fileFault : ℕ → ℕ → ℕ → List ℕ → List ℕ → List ℕ → ℕ
-fileFault w h n p b o =
-    firstFault
-    (when (not (sidesOk w h)) 10
-    ∷ (when (not (eqb (length p) n)) 12 ∷ (when (not (eqb (length o) (length b))) 14 ∷ [])))
-
--- "A number other than 0 has .. every lent byte unchanged. A 0 overwrites the whole picture or output".
+-- "A number other than 0 has .. every lent byte unchanged. A 0 overwrites the whole picture or output"; n is the picture's
+-- length as it must be, b the file.
 pub record FileWith (w h n : ℕ) (p b o o′ : List ℕ) (r : ℕ) : Type 0 where
   pub number : r ≡ fileFault w h n p b o
   pub bytes : o′ ≡ pick (eqb (fileFault w h n p b o) 0) b o

@@ -1,4 +1,5 @@
 // The Netpbm files made of pictures.
 pub mod append;
+pub mod call;
 pub mod decimal;
 pub mod file;

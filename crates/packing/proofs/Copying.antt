@@ -11,7 +11,8 @@ use Rattle.rules.specs.Tapes.{Got, placeOf, slotLimit, rawsOf, readList, word, 
 use Rattle.rules.proofs.Reading.{counts-hold, list-accepted, list-tape, tape-accepted, tape-tape}
 use Rattle.rules.proofs.Lines.{first-here}
 use Rattle.rules.proofs.Places.{Placed}
-use Rattle.packing.specs.Packing.{copyFault, Copies}
+use Rattle.promises.specs.Faults.{copyFault}
+use Rattle.packing.specs.Packing.{Copies}
 
 -- The slot count of what was read.
 pub list-slots : (n : ℕ) (zs : List ℤ) → readList n zs .number ≡ 0 → readList n zs .tape .slots ≤ slotLimit

@@ -1,4 +1,5 @@
 -- Laws that the proofs of this crate cite.
 pub mod Copying
 pub mod Packing
+pub mod Calls
 pub mod Writing

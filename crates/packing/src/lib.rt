@@ -1,4 +1,6 @@
 // Packing a list into a tape's bytes and unpacking it again. A refused call writes nothing, a done one every element.
+pub mod call;
+
 use tape::CLAUSE_BYTES;
 use tape::CLAUSE_NUMBERS;
 use tape::HEAD_BYTES;

@@ -21,11 +21,16 @@ use Rattle.code.specs.Words.{Runnable}
 use Rattle.code.specs.Runs.{SampleOk, Evaluated}
 use Rattle.code.specs.Unpacking.{Unpacked}
 use Rattle.code.proofs.WordTapes.{words-runnable, unpacked-tape, unpacked-accepted}
-use Rattle.probe.specs.declared.point.Point as declared-point
-use Rattle.probe.specs.declared.side.Probe.{Probe}
-use Rattle.probe.specs.declared.side.Probe.the-variants.{Inside, Outside, Surface, Refused}
-use Rattle.probe.specs.Points.{pointIn}
-use Rattle.probe.specs.Sides.{sideOf}
+use Rattle.answers.specs.declared.Answer.{Answer}
+use Rattle.answers.specs.Says.{Answered}
+use Rattle.answers.proofs.Ends.{answer, uncounted, tape-place}
+use Rattle.promises.specs.declared.Point as declared-point
+use Rattle.promises.specs.declared.Probe.{Probe}
+use Rattle.promises.specs.declared.Probe.the-variants.{Inside, Outside, Surface, Refused}
+use Rattle.promises.specs.Sides.{pointIn}
+use Rattle.promises.specs.Sides.{sideOf}
+use Rattle.promises.proofs.Probes.{coordinates, clear}
+use Rattle.probe.specs.declared.Finding.{Finding}
 use Rattle.probe.specs.Answers.{Found}
 
 -- Line 20, by its test.
@@ -38,24 +43,6 @@ pub point-refused : (p : Point) {t : Bool}
     → t ≡ (coordinateOk (p .x) && (coordinateOk (p .y) && coordinateOk (p .z))) → t ≡ false → 20 ≡ pointFault p
 unfolding pointFault
 point-refused p e h = rw (sym e ∙ h)
-
-pub record Coordinates (p : Point) : Type 0 where
-  pub x : coordinateOk (p .x) ≡ true
-  pub y : coordinateOk (p .y) ≡ true
-  pub z : coordinateOk (p .z) ≡ true
-
-pub coordinates : (p : Point) → pointFault p ≡ 0 → Coordinates p
-unfolding pointFault
-coordinates p e =
-    let x = coordinateOk (p .x) in
-    let y = coordinateOk (p .y) in
-    let z = coordinateOk (p .z) in
-    let t = not-false (x && (y && z)) (last-off (not (x && (y && z))) 19 e) in
-    record {
-      x = and-left x (y && z) t;
-      y = and-left y z (and-right x (y && z) t);
-      z = and-right y z (and-right x (y && z) t);
-    }
 
 pub sample-is : (p : Point) {a b c : ℤ} → a ≡ roundedDown (p .x) → b ≡ roundedDown (p .y) → c ≡ roundedDown (p .z)
     → _≡_ {A = Sample} (record { x = a; y = b; z = c }) (roundedPoint p)
@@ -76,13 +63,6 @@ pub fault-is : (s : List ℕ) (p : Point) {n a b : ℕ} → n ≡ firstOf a b �
     → n ≡ probeFault s p
 fault-is s p {b = b} e h k =
     e ∙ ap (λ m. firstOf m b) h ∙ ap (firstOf (readTape s .number)) (k ∙ sym (first-none (pointFault p)))
-
-pub record Clear (s : List ℕ) (p : Point) : Type 0 where
-  pub read : readTape s .number ≡ 0
-  pub point : pointFault p ≡ 0
-
-pub clear : (s : List ℕ) (p : Point) → probeFault s p ≡ 0 → Clear s p
-clear s p e = let z = each-line (probeLines s p) e in record { read = z 0; point = z 1 }
 
 -- The words of an unpacked tape, run.
 module _ {s ws ws′ : List ℕ} {k : ℕ} (u : Unpacked s ws ws′ k) (e : readTape s .number ≡ 0) where
@@ -125,3 +105,9 @@ answered s p e h =
       place = sym (tape-placed s .placed ∙ ap (λ m. placeOf m (readTape s .place)) y);
       side = h ∙ rw z;
     }
+
+-- The place of a tape that is accepted is 0, and so the place of line 20.
+pub probe-answer : {s : List ℕ} {p : declared-point.Point} {f : Finding} {r : Answer} → Found s p f
+    → r ≡ answer (f .number) (f .place) 0 → Answered (probeFault s (pointIn p)) (readTape s .place) 0 r
+probe-answer {s} {p} f e =
+    uncounted e (f .number) (f .place ∙ tape-place s (probeLines s (pointIn p)) refl)

@@ -4,10 +4,10 @@ use mathlib.Core.List.{List}
 use Prim.Native.Nat.{ℕ}
 use Rattle.rules.specs.Tapes.{readTape}
 use Rattle.rules.specs.Probes.{probeFault, probedValue}
-use Rattle.probe.specs.declared.point.Point.{Point}
+use Rattle.promises.specs.declared.Point.{Point}
 use Rattle.probe.specs.declared.Finding.{Finding}
-use Rattle.probe.specs.Points.{pointIn}
-use Rattle.probe.specs.Sides.{probeOf}
+use Rattle.promises.specs.Sides.{pointIn}
+use Rattle.promises.specs.Sides.{probeOf}
 
 -- A tape that is accepted has the place 0.
 pub record Found (s : List ℕ) (p : Point) (r : Finding) : Type 0 where

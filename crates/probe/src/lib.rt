@@ -1,14 +1,15 @@
 // The formula at a point: lines 1 to 9 and 20, then the full tape's value at the rounded point.
-pub mod point;
-pub mod side;
+pub mod call;
+mod point;
+mod side;
 
 use code::run::run_values;
 use code::unpack::unpack_words;
 use fixed::clause::Sample;
-use point::Point;
 use point::point_fault;
 use point::rounded_point;
-use side::Probe;
+use promises::Point;
+use promises::Probe;
 use side::side_of;
 use tape::CLAUSE_LIMIT;
 use tape::SLOT_LIMIT;

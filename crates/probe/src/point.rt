@@ -1,18 +1,12 @@
 // A point under the cursor: which coordinates are taken, and the units that they are rounded down to.
 use fixed::clause::Sample;
+use promises::Point;
 use std::num::truncating_f64_to_i64;
 ghost use mathlib.Core.Path.{_≡_};
 ghost use mathlib.Core.Bool.{true};
 ghost use Rattle.rules.specs.Probes.{coordinateOk, pointFault, roundedDown, roundedPoint};
 ghost use Rattle.fixed.specs.Shapes.{sampleIn};
-ghost use Rattle.probe.specs.Points.{pointIn};
-
-#[repr(C)]
-pub struct Point {
-    pub x: f64,
-    pub y: f64,
-    pub z: f64,
-}
+ghost use Rattle.promises.specs.Sides.{pointIn};
 
 // What is not a number is neither at most nor at least anything.
 fn coordinate_ok(c: f64) -> bool

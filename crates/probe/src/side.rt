@@ -1,14 +1,8 @@
 // The probe's answer, by the side of the surface that a value lies on.
+use promises::Probe;
 ghost use mathlib.Core.Path.{_≡_};
 ghost use Rattle.rules.specs.Probes.{storedFloat};
-ghost use Rattle.probe.specs.Sides.{sideOf, sideNumber, sideValue};
-
-pub enum Probe {
-    Inside(f64),
-    Outside(f64),
-    Surface,
-    Refused,
-}
+ghost use Rattle.promises.specs.Sides.{sideOf, sideNumber, sideValue};
 
 // An i32 is an f64 without loss, and its exponent takes the power of two.
 fn stored(v: i32) -> f64

@@ -21,7 +21,7 @@ use Rattle.netpbm.proofs.FileLaws.{Sides, short-head, length-bitmap, length-hei
 use Rattle.answers.specs.declared.Answer.{Answer}
 use Rattle.answers.specs.Lines.{lengthFault, drawLines, tileFault}
 use Rattle.answers.specs.Says.{Answered, written}
-use Rattle.layers.specs.Says as Calls
+use Rattle.promises.specs.Says as Calls
 use Rattle.program.specs.declared.Drawn.{Drawn}
 use Rattle.program.specs.Says.{PictureFits, layerFault, FileSays}
 

@@ -1,6 +1,6 @@
 // The program's own buffers. Those that stay inside tell their length alone, so that no proof meets thousands of zeros.
 use crate::INPUT;
-use layers::WORK_LIMIT;
+use answers::lines::WORK_LIMIT;
 ghost use mathlib.Core.Path.{_≡_};
 ghost use lib.ListN.{length, replicate};
 ghost use Rattle.rules.specs.Drawings.{workLimit};

@@ -1,8 +1,8 @@
 // The file of a flat drawing.
 use crate::Drawn;
 use crate::buffers::zero_bytes;
-use layers::tile_flat;
-use layers::write_bitmap;
+use flat_drawing::tile_flat;
+use netpbm::call::write_bitmap;
 use netpbm::file::file_length;
 use picture::bits::stride;
 use picture::grid::Grid;

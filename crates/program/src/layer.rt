@@ -6,7 +6,7 @@ use crate::record::read_grid;
 use crate::record::record_ok;
 use crate::record::too_large;
 use crate::solid::solid_file;
-use layers::refused;
+use answers::refused;
 ghost use mathlib.Core.Path.{_≡_};
 ghost use Rattle.program.specs.Says.{outputLength, InputSays};
 

@@ -6,9 +6,9 @@ pub mod lines;
 mod record;
 mod solid;
 
+use answers::Answer;
 pub use buffers::input_room;
 use layer::layer_file;
-use layers::Answer;
 use lines::put_count;
 use lines::put_refused;
 ghost use Rattle.program.specs.Says.{ProgramSays};

@@ -2,10 +2,10 @@
 use crate::Drawn;
 use crate::buffers::zero_bytes;
 use crate::buffers::zero_heights;
-use layers::tile_solid;
-use layers::write_heights;
+use netpbm::call::write_heights;
 use netpbm::file::file_length;
 use picture::grid::Grid;
+use solid_drawing::tile_solid;
 ghost use mathlib.Core.Path.{_≡_};
 ghost use mathlib.Core.Bool.{true};
 ghost use Prim.Native.Nat.{_≤_};

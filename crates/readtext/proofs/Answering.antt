@@ -19,10 +19,10 @@ use Rattle.formula_rules.specs.FormulaReader.{reader}
 use Rattle.formula_rules.specs.FormulaReader as R
 use Rattle.formula_rules.specs.FormulaTapes.{tapeOf, fitsText, textClauses, textSlots}
 use Rattle.formula_rules.proofs.Formulas.{reads-exactly}
-use Rattle.formula.specs.Says.{tapeRoom, textFault, answerFault, answerBytes, inFront}
+use Rattle.promises.specs.Faults.{tapeRoom, textFault, answerFault, answerBytes, inFront}
 use Rattle.answers.specs.declared.Answer.{Answer}
-use Rattle.layers.specs.Says.{TextAnswered}
-use Rattle.layers.proofs.Texts.{text-read, room-kept}
+use Rattle.promises.specs.Says.{TextAnswered}
+use Rattle.promises.proofs.Texts.{text-read, room-kept}
 use Rattle.readtext.specs.Says.{answered, Said}
 
 -- The head's count of clauses, before whatever bytes.

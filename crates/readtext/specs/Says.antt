@@ -7,7 +7,7 @@ use lib.ListN.{length}
 use Rattle.rules.specs.Values.{pick}
 use Rattle.program_rules.specs.Program.{refusedLine}
 use Rattle.formula_rules.specs.FormulaReader.{reader}
-use Rattle.formula.specs.Says.{answerFault, answerBytes, inFront}
+use Rattle.promises.specs.Faults.{answerFault, answerBytes, inFront}
 
 -- The program's own buffer has the length that is asked for, so that 14 never comes.
 abbrev pub answered : List ℕ → List ℕ

@@ -1,5 +1,5 @@
 // What the program answers, on bytes alone.
-use layers::read_text;
+use formula::call::read_text;
 use program::lines::put_refused;
 use tape::bytes::word_at;
 ghost use Rattle.readtext.specs.Says.{Said};

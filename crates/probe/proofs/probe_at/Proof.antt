@@ -4,9 +4,10 @@ use mir.Syntax.{w32}
 use Rattle.rules.specs.Tapes.{readTape, valueAt}
 use Rattle.rules.specs.Probes.{probeFault}
 use Rattle.rules.proofs.Words.{back}
-use Rattle.probe.specs.Points.{pointIn}
-use Rattle.probe.specs.Sides.{sideOf}
-use Rattle.probe.proofs.Probing.{fault-is, Clear, clear, rounded-sample, refused, answered}
+use Rattle.promises.specs.Sides.{pointIn}
+use Rattle.promises.specs.Sides.{sideOf}
+use Rattle.probe.proofs.Probing.{fault-is, rounded-sample, refused, answered}
+use Rattle.promises.proofs.Probes.{Clear, clear}
 use borrow.Author.Needs.{needs}
 use Rattle.probe.proofs.probe_at.Statement.{statement}
 use Rattle.probe.proofs.probe_at.Tie as tie

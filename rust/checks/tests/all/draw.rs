@@ -355,6 +355,19 @@ mv ../drawlayer target/bin";
     assert_eq!(told, expected);
 }
 
+/// The reader of texts is proved when a text is drawn.
+#[test]
+fn only_what_is_needed_is_built() {
+    let s = Scratch::new("only_what_is_needed_is_built");
+    s.input("x.part", &part());
+    s.input("y.txt", b"x");
+    s.script("bin/rt", "echo \"$*\" > ../asked; echo 'rt: ok'");
+    for (name, asked) in [("x.part", "check drawlayer\n"), ("y.txt", "check drawlayer readtext\n")] {
+        s.draw(&[name]);
+        assert_eq!(fs::read_to_string(s.at("asked")).unwrap(), asked);
+    }
+}
+
 /// The line without the digits that stand before the mark.
 fn without_number_before(line: &str, mark: &str) -> String {
     match line.split_once(mark) {

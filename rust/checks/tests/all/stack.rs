@@ -1,10 +1,10 @@
-//! The stack that the drawings by tiles, a probe and the reader of texts take.
+//! The stack that each call takes.
 
 use crate::probe::core;
 use checks::compare::answer;
 use checks::drawing::Drawing;
 use checks::lists::List;
-use slow::call::tile;
+use slow::call::{draw, tile};
 use slow::draw::Grid;
 use slow::seen::{self, Event};
 use slow::text::OUTPUT;
@@ -24,63 +24,105 @@ pub fn mixed(slots: u32, count: i32) -> List {
     List { slots, clauses }
 }
 
-/// Draws the tape, flat, solid and with slopes, in a thread of its own. Samples are run, so that every level is entered.
-fn runs_on(stack: usize, list: List) {
+/// What a call of any kind takes at most, on any tape: the walk of a solid has four arrays of 6,144 words, 48 KiB each.
+const MOST: usize = 256 * 1024;
+
+/// One array of 6,144 words, and what else a call needs that walks no regions.
+const ONE_ARRAY: usize = 64 * 1024;
+
+/// Tapes of either edition, the largest of each and small ones.
+fn tapes() -> [List; 4] {
+    [mixed(64, 1024), mixed(3, 7), mixed(128, 6144), mixed(65, 70)]
+}
+
+/// Runs in a thread of its own, on a stack of that size.
+fn on<T: Send + 'static>(stack: usize, run: impl FnOnce() -> T + Send + 'static) -> T {
+    let thread = std::thread::Builder::new().stack_size(stack + THREAD).spawn(run).expect("a thread");
+    thread.join().expect("no overflow")
+}
+
+/// Draws by tiles, flat, solid and with slopes. Samples are run, so that every level is entered.
+#[test]
+fn drawings_by_tiles() {
     let grid = Grid { sizes: [90, 70, 70], origins: [-43_300, -43_300, 0], steps: [1000; 3] };
-    let drawing = Drawing::new(list.tape(), grid);
-    let core = drawing.core_grid();
-    let (mut flat, mut solid, mut work) = (vec![0u8; drawing.flat], vec![0u16; drawing.solid], vec![0; drawing.work]);
-    let mut slopes = vec![0; 3 * drawing.solid];
-    seen::take();
-    let a = tile(&drawing.tape, &grid, &mut flat, &mut work);
-    let b = tile(&drawing.tape, &grid, &mut solid, &mut work);
-    let met = seen::take();
-    assert!(met[Event::FlatSample as usize] && met[Event::SolidSample as usize]);
-    let draw = move || {
-        let a = layers::raw::tile_flat(&drawing.tape, core, &mut flat, &mut work);
-        let b = layers::raw::tile_solid(&drawing.tape, core, &mut solid, &mut work);
-        let c = layers::raw::tile_slopes(&drawing.tape, core, &mut solid, &mut slopes, &mut work);
-        [answer(a), answer(b), answer(c)]
-    };
-    let thread = std::thread::Builder::new().stack_size(stack + THREAD).spawn(draw).expect("a thread");
-    assert_eq!(thread.join().expect("no overflow"), [a, b, b]);
-}
-
-/// Probes in a thread of its own.
-fn probes_on(stack: usize, list: List) {
-    let (tape, point) = (list.tape(), [0.5, -0.25, 1.5]);
-    let expected = slow::probe::probe(&tape, point);
-    assert_eq!(expected.answer.number, 0);
-    let probe = move || core(&tape, point);
-    let thread = std::thread::Builder::new().stack_size(stack + THREAD).spawn(probe).expect("a thread");
-    assert_eq!(thread.join().expect("no overflow"), expected);
-}
-
-/// A tape of edition 01 takes less than 64 KiB.
-#[test]
-fn edition_01_uses_little_stack() {
-    runs_on(64 * 1024, mixed(64, 1024));
-    runs_on(64 * 1024, mixed(3, 7));
-}
-
-/// A tape of edition 02 has arrays of 6,144 words, 48 KiB each, whatever its length.
-#[test]
-fn edition_02_uses_more_stack() {
-    runs_on(320 * 1024, mixed(128, 6144));
-    runs_on(320 * 1024, mixed(65, 70));
-}
-
-/// A probe has one array of 6,144 words for a tape of either edition.
-#[test]
-fn probes_use_little_stack() {
-    for list in [mixed(64, 1024), mixed(3, 7), mixed(128, 6144), mixed(65, 70)] {
-        probes_on(64 * 1024, list);
+    for list in tapes() {
+        let drawing = Drawing::new(list.tape(), grid);
+        let core = drawing.core_grid();
+        let (mut flat, mut solid, mut work) =
+            (vec![0u8; drawing.flat], vec![0u16; drawing.solid], vec![0; drawing.work]);
+        let mut slopes = vec![0; 3 * drawing.solid];
+        seen::take();
+        let a = tile(&drawing.tape, &grid, &mut flat, &mut work);
+        let b = tile(&drawing.tape, &grid, &mut solid, &mut work);
+        let met = seen::take();
+        assert!(met[Event::FlatSample as usize] && met[Event::SolidSample as usize]);
+        let drawn = on(MOST, move || {
+            let a = layers::raw::tile_flat(&drawing.tape, core, &mut flat, &mut work);
+            let b = layers::raw::tile_solid(&drawing.tape, core, &mut solid, &mut work);
+            let c = layers::raw::tile_slopes(&drawing.tape, core, &mut solid, &mut slopes, &mut work);
+            [answer(a), answer(b), answer(c)]
+        });
+        assert_eq!(drawn, [a, b, b]);
     }
+}
+
+/// Draws in full.
+#[test]
+fn drawings_in_full() {
+    let grid = Grid { sizes: [9, 7, 5], origins: [-43_300, -43_300, 0], steps: [10_000; 3] };
+    for list in tapes() {
+        let drawing = Drawing::new(list.tape(), grid);
+        let core = drawing.core_grid();
+        let (mut flat, mut solid) = (vec![0u8; drawing.flat], vec![0u16; drawing.solid]);
+        let a = draw(&drawing.tape, &grid, &mut flat);
+        let b = draw(&drawing.tape, &grid, &mut solid);
+        assert_eq!((a.number, b.number), (0, 0));
+        let drawn = on(ONE_ARRAY, move || {
+            let a = layers::raw::draw_flat(&drawing.tape, core, &mut flat);
+            let b = layers::raw::draw_solid(&drawing.tape, core, &mut solid);
+            [answer(a), answer(b)]
+        });
+        assert_eq!(drawn, [a, b]);
+    }
+}
+
+/// A probe has one array of words.
+#[test]
+fn probes() {
+    for list in tapes() {
+        let (tape, point) = (list.tape(), [0.5, -0.25, 1.5]);
+        let expected = slow::probe::probe(&tape, point);
+        assert_eq!(expected.answer.number, 0);
+        assert_eq!(on(ONE_ARRAY, move || core(&tape, point)), expected);
+    }
+}
+
+/// Packing, unpacking and files have no arrays.
+#[test]
+fn packing_and_files() {
+    for list in tapes() {
+        let (slots, numbers, tape) = (list.slots, list.numbers(), list.tape());
+        let packed = on(ONE_ARRAY, move || {
+            let (mut bytes, mut back) = (vec![0; tape.len()], vec![0; numbers.len()]);
+            let a = layers::raw::pack_tape(slots, &numbers, &mut bytes);
+            let b = layers::raw::unpack_tape(&tape, &mut back).answer;
+            assert!(bytes == tape && back == numbers);
+            [a.number, b.number]
+        });
+        assert_eq!(packed, [0, 0]);
+    }
+    let written = on(ONE_ARRAY, || {
+        let (bits, heights) = (vec![0; 64 * 512], vec![0; 512 * 512]);
+        let a = layers::raw::write_bitmap(512, 512, &bits, &mut vec![0; 11 + bits.len()]);
+        let b = layers::raw::write_heights(512, 512, &heights, &mut vec![0; 17 + 2 * heights.len()]);
+        [a.number, b.number]
+    });
+    assert_eq!(written, [0, 0]);
 }
 
 /// The reader has a list of 1,024 clauses, and calls itself for every bracket that is open.
 #[test]
-fn texts_use_little_stack() {
+fn texts() {
     let nested = |open: &str, inner: &str| open.repeat(32) + inner + &")".repeat(32);
     let texts = [
         nested("(", "x"),
@@ -93,7 +135,6 @@ fn texts_use_little_stack() {
         let mut out = vec![0; OUTPUT];
         let expected = slow::text::read_text(text.as_bytes(), &mut out);
         let read = move || answer(layers::raw::read_text(text.as_bytes(), &mut vec![0; OUTPUT]));
-        let thread = std::thread::Builder::new().stack_size(64 * 1024 + THREAD).spawn(read).expect("a thread");
-        assert_eq!(thread.join().expect("no overflow"), expected);
+        assert_eq!(on(ONE_ARRAY, read), expected);
     }
 }

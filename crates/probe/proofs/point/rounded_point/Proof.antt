@@ -1,8 +1,9 @@
 -- Field by field.
 use mir.Syntax.{w32}
 use Rattle.rules.proofs.Words.{back}
-use Rattle.probe.specs.Points.{pointIn}
-use Rattle.probe.proofs.Probing.{Coordinates, coordinates, sample-is}
+use Rattle.promises.specs.Sides.{pointIn}
+use Rattle.promises.proofs.Probes.{Coordinates, coordinates}
+use Rattle.probe.proofs.Probing.{sample-is}
 use Rattle.probe.proofs.point.rounded_point.Statement.{statement}
 use Rattle.probe.proofs.point.rounded_point.Tie as tie
 

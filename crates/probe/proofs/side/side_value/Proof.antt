@@ -1,7 +1,7 @@
 -- The value that a case holds, or +0, as its bits.
 use mathlib.Core.Path.{sym, ap}
 use lib.Ieee.{ofBits}
-use Rattle.probe.specs.Sides.{sideValue}
+use Rattle.promises.specs.Sides.{sideValue}
 use borrow.Author.Needs.{needs}
 use Rattle.probe.proofs.side.side_value.Statement.{statement}
 use Rattle.probe.proofs.side.side_value.Tie as tie

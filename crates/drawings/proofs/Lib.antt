@@ -1,0 +1,3 @@
+-- What the proofs of the drawing calls share.
+pub mod TapeWords
+pub mod Calls

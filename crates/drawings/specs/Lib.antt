@@ -1,0 +1,2 @@
+-- What the drawings of an accepted tape give.
+pub mod Drawn

@@ -1,2 +1,0 @@
--- What the drawings of each edition ask and give.
-pub mod Sizes

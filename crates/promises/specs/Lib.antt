@@ -1,0 +1,4 @@
+-- What the public calls promise: read Says; the others are the words that it uses.
+pub mod Faults
+pub mod Sides
+pub mod Says

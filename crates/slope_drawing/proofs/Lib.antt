@@ -1,0 +1,3 @@
+-- What the proofs of the call share.
+pub mod TapeSlopes
+pub mod Calls

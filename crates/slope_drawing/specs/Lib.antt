@@ -1,0 +1,2 @@
+-- What a drawing with slopes gives.
+pub mod Sloped
