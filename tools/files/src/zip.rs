@@ -1,0 +1,1 @@
+//! Stored zip archives.

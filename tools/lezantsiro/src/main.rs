@@ -1,0 +1,3 @@
+//! From a formula to a printer's masks.
+
+fn main() {}
