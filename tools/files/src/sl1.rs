@@ -23,10 +23,6 @@ pub struct Job {
 }
 
 /// Writes an archive. `layer` gives each layer's mask in turn, its first row that of the greatest y.
-pub fn write(
-    _job: &Job,
-    _to: &mut dyn Write,
-    _layer: &mut dyn FnMut(usize) -> io::Result<Mask>,
-) -> io::Result<()> {
+pub fn write(_job: &Job, _to: &mut dyn Write, _layer: &mut dyn FnMut(usize) -> io::Result<Mask>) -> io::Result<()> {
     todo!()
 }
