@@ -6,3 +6,6 @@ pub mod sha256;
 pub mod sl1;
 pub mod whole;
 pub mod zip;
+
+#[cfg(test)]
+mod tests;
