@@ -6,6 +6,7 @@
 use crate::part::Part;
 use crate::units::{Fraction, GREATEST};
 use layers::{Clause, Opcode};
+use rayon::prelude::*;
 
 /// A range of values, in units.
 pub type Range = [i128; 2];
@@ -24,11 +25,19 @@ pub struct Clamped {
 }
 
 /// How often a box is halved before it counts.
-const HALVINGS: u32 = 12;
+const HALVINGS: u32 = 10;
 
-/// A box where some clause clamps, with that clause; `None` if none can. The first clause that looks wrong over the whole
-/// plate is tried before the others, since it is the cause of what follows.
-pub fn clamped(clauses: &[Clause], ranges: [Range; 3]) -> Option<Clamped> {
+/// A box where some clause clamps, with that clause; `None` if none can. Layers are looked at one by one, the lowest
+/// first: between two of them a divisor may be 0 that is 0 on none.
+pub fn clamped(clauses: &[Clause], x: Range, y: Range, levels: &[i128]) -> Option<Clamped> {
+    let ends = [levels.iter().min()?, levels.iter().max()?].map(|z| *z);
+    first_beyond(clauses, [x, y, ends])?;
+    levels.par_iter().find_map_first(|z| at_level(clauses, [x, y, [*z, *z]]))
+}
+
+/// The same for one layer. The first clause that looks wrong over all of it is tried before the others, since it is the
+/// cause of what follows.
+fn at_level(clauses: &[Clause], ranges: [Range; 3]) -> Option<Clamped> {
     let (first, _) = first_beyond(clauses, ranges)?;
     search(&clauses[..=first], ranges, HALVINGS).or_else(|| search(clauses, ranges, HALVINGS))
 }
@@ -142,9 +151,11 @@ mod tests {
         [from * 65_536, to * 65_536]
     }
 
-    fn said(formula: &str, ranges: [Range; 3]) -> Option<String> {
+    /// What is said of a plate whose layers are a quarter apart.
+    fn said(formula: &str, [x, y, z]: [Range; 3]) -> Option<String> {
         let part = Part::of_formula(formula).expect("a part");
-        clamped(&part.tape.clauses(), ranges).map(|clamped| words(&part, &clamped))
+        let levels: Vec<i128> = (z[0]..=z[1]).step_by(16_384).collect();
+        clamped(&part.tape.clauses(), x, y, &levels).map(|clamped| words(&part, &clamped))
     }
 
     #[test]
@@ -168,6 +179,8 @@ mod tests {
     #[test]
     fn every_way_of_clamping_is_found() {
         let plate = [mm(-96, 96), mm(-60, 60), mm(0, 20)];
+        // the divisor is 0 on no layer
+        assert_eq!(said("x/(z - 2.1)", plate), None);
         for (formula, begin) in [
             ("x*y*6", "x*y*6 at byte 0"),
             ("1/z", "1/z at byte 0 clamps where its divisor is near 0"),

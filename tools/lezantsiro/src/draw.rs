@@ -2,16 +2,14 @@
 
 use crate::messages::Stop;
 use crate::plate::{Block, Plate};
-use files::mask::{Mask, Pixels, level};
+use files::mask::{Mask, Pixels, level, row_bytes};
 use layers::{Bitmap, Drawn, Grid, Refusal, Tape, Work};
 use rayon::prelude::*;
 
 /// A layer's pixels, by rows from the least y on, and the clauses that its drawing ran.
 #[derive(Clone, Debug, PartialEq, Eq)]
 pub struct Layer {
-    pub width: u32,
-    pub height: u32,
-    pub pixels: Pixels,
+    pub mask: Mask,
     pub count: u64,
 }
 
@@ -45,7 +43,7 @@ fn layer_by(
     let count = drawn.iter().map(|band| band.1).sum();
     let bytes = drawn.into_iter().flat_map(|band| band.0).collect();
     let pixels = if plate.aa == 1 { Pixels::Bits(bytes) } else { Pixels::Grey(bytes) };
-    Ok(Layer { width: plate.width, height: plate.height, pixels, count })
+    Ok(Layer { mask: masked(plate.width, plate.height, pixels), count })
 }
 
 /// The pixels of a row of blocks: bits, or greys where a pixel has several samples.
@@ -101,56 +99,26 @@ fn greys(bits: &[u8], stride: usize, width: usize, aa: u32) -> Vec<u8> {
     greys
 }
 
-/// Bytes of a row of bits.
-pub fn row_bytes(width: u32) -> usize {
-    width.div_ceil(8) as usize
+/// A mask of pixels that were made for these sizes.
+fn masked(width: u32, height: u32, pixels: Pixels) -> Mask {
+    Mask::new(width, height, pixels).expect("as many pixels as the sizes say")
 }
 
-impl Layer {
-    /// How many pixels have any material.
-    pub fn material(&self) -> u64 {
-        match &self.pixels {
-            Pixels::Bits(bits) => bits.iter().map(|byte| u64::from(byte.count_ones())).sum(),
-            Pixels::Grey(greys) => greys.iter().filter(|grey| **grey > 0).count() as u64,
-        }
-    }
-
-    /// Whether a pixel of the first or last row or column has material.
-    pub fn touches_edge(&self) -> bool {
-        let mask = Mask { width: self.width, height: self.height, pixels: self.pixels.clone() };
-        let (right, top) = (self.width - 1, self.height - 1);
-        let along_x = (0..self.width).any(|x| level_at(&mask, x, 0) > 0 || level_at(&mask, x, top) > 0);
-        along_x || (0..self.height).any(|y| level_at(&mask, 0, y) > 0 || level_at(&mask, right, y) > 0)
-    }
-
-    /// The picture: its first row is that of the greatest y if y goes up in it.
-    pub fn into_mask(self, up: bool) -> Mask {
-        let Layer { width, height, pixels, .. } = self;
-        let mask = Mask { width, height, pixels };
-        if up { flipped(mask) } else { mask }
-    }
-}
-
-/// The mask with its rows the other way round.
-pub fn flipped(mask: Mask) -> Mask {
-    let rows = |bytes: Vec<u8>, stride: usize| bytes.chunks(stride).rev().flatten().copied().collect();
-    let pixels = match mask.pixels {
-        Pixels::Bits(bits) => Pixels::Bits(rows(bits, row_bytes(mask.width))),
-        Pixels::Grey(greys) => Pixels::Grey(rows(greys, mask.width as usize)),
+/// The mask with its rows the other way round: the first is that of the greatest y, or again of the least.
+pub fn flipped(mask: &Mask) -> Mask {
+    let rows = |bytes: &[u8], stride: usize| bytes.chunks(stride).rev().flatten().copied().collect();
+    let pixels = match mask.pixels() {
+        Pixels::Bits(bits) => Pixels::Bits(rows(bits, row_bytes(mask.width()))),
+        Pixels::Grey(greys) => Pixels::Grey(rows(greys, mask.width() as usize)),
     };
-    Mask { pixels, ..mask }
+    masked(mask.width(), mask.height(), pixels)
 }
 
-/// A pixel's level: 0 without material, 255 for material alone.
-pub fn level_at(mask: &Mask, x: u32, y: u32) -> u8 {
-    let (x, y) = (x as usize, y as usize);
-    match &mask.pixels {
-        Pixels::Bits(bits) => {
-            let byte = bits[y * row_bytes(mask.width) + x / 8];
-            if byte & (0x80 >> (x % 8)) == 0 { 0 } else { 255 }
-        }
-        Pixels::Grey(greys) => greys[y * mask.width as usize + x],
-    }
+/// Whether a pixel of the first or last row or column has material.
+pub fn touches_edge(mask: &Mask) -> bool {
+    let (right, top) = (mask.width() - 1, mask.height() - 1);
+    let along_x = (0..=right).any(|x| mask.level(x, 0) > 0 || mask.level(x, top) > 0);
+    along_x || (0..=top).any(|y| mask.level(0, y) > 0 || mask.level(right, y) > 0)
 }
 
 #[cfg(test)]
@@ -183,20 +151,15 @@ mod tests {
 
     /// The bits of a window of a layer, whose columns begin at a whole byte.
     fn window(layer: &Layer, block: &Block) -> Vec<u8> {
-        let Pixels::Bits(bits) = &layer.pixels else { panic!("bits") };
-        let (stride, begin) = (row_bytes(layer.width), block.column as usize / 8);
+        let Pixels::Bits(bits) = layer.mask.pixels() else { panic!("bits") };
+        let (stride, begin) = (row_bytes(layer.mask.width()), block.column as usize / 8);
         let rows = bits.chunks(stride).skip(block.row as usize).take(block.height as usize);
         rows.flat_map(|row| row[begin..begin + row_bytes(block.width)].to_vec()).collect()
     }
 
     /// Windows of sizes that one call holds, across the seams of the blocks: each drawn at once and compared.
-    fn agrees_with_one_drawing(
-        layer: &Layer,
-        tape: &Tape,
-        plate: &Plate,
-        z: i32,
-    ) -> bool {
-        let windows = [(256, 256, 512, 512), (768, 300, 512, 400), (1024, 512, 64, 188), (0, 0, 512, 512)];
+    fn agrees_with_one_drawing(layer: &Layer, tape: &Tape, plate: &Plate, z: i32) -> bool {
+        let windows = [(256, 256, 512, 444), (768, 300, 512, 400), (1024, 512, 64, 188), (0, 0, 512, 512)];
         windows.into_iter().all(|(column, row, width, height)| {
             let block = Block { column, row, width, height };
             window(layer, &block) == whole(tape, plate, z, block)
@@ -210,7 +173,7 @@ mod tests {
             let (_, tape) = tape_for(FORMULA, &plate);
             for (z, share) in [(0, Share::Blocks), (70_000, Share::Nothing)] {
                 let layer = layer(&tape, &plate, z, share).expect("a layer");
-                assert!(layer.material() > 1000 && layer.count > 0);
+                assert!(layer.mask.filled() > 1000 && layer.count > 0);
                 assert!(agrees_with_one_drawing(&layer, &tape, &plate, z), "{pitch} {z}");
             }
         }
@@ -223,7 +186,7 @@ mod tests {
             let (_, tape) = tape_for(FORMULA, &plate);
             let block = Block { column: 0, row: 0, width: size.0, height: size.1 };
             let layer = layer(&tape, &plate, 5, Share::Blocks).expect("a layer");
-            assert_eq!(layer.pixels, Pixels::Bits(whole(&tape, &plate, 5, block)));
+            assert_eq!(*layer.mask.pixels(), Pixels::Bits(whole(&tape, &plate, 5, block)));
         }
     }
 
@@ -257,7 +220,7 @@ mod tests {
         for (pitch, aa) in [("0.05", 1), ("0.035", 1), ("0.05", 2), ("0.0285", 4)] {
             let plate = plate((900, 640), pitch, aa);
             let (tape, drawn) = tape_for(FORMULA, &plate);
-            let mask = layer(&drawn, &plate, 40_000, Share::Blocks).expect("a layer").into_mask(false);
+            let mask = layer(&drawn, &plate, 40_000, Share::Blocks).expect("a layer").mask;
             for _ in 0..20_000 {
                 let (x, y) = (random.below(900) as u32, random.below(640) as u32);
                 let expected = (0..aa * aa).filter(|sample| {
@@ -265,7 +228,7 @@ mod tests {
                     let [x, y, z] = point.map(|units| units as f64 / 65_536.0);
                     matches!(tape.probe(x, y, z), Ok(Probe::Inside(_)))
                 });
-                assert_eq!(level_at(&mask, x, y), level(expected.count() as u32, aa * aa), "{pitch} {aa}: {x}, {y}");
+                assert_eq!(mask.level(x, y), level(expected.count() as u32, aa * aa), "{pitch} {aa}: {x}, {y}");
             }
         }
     }
@@ -280,8 +243,8 @@ mod tests {
             let plate = Plate::new((1300, 700), [pitch; 2], Origin::Corner([corner; 2]), 1, false).expect("a plate");
             let layer = layer(&tape, &plate, 0, Share::Blocks).expect("a layer");
             let all = 1300 * 700;
-            assert_eq!(layer.material(), if corner.is_positive() { 0 } else { all });
-            assert_eq!(layer.touches_edge(), !corner.is_positive());
+            assert_eq!(layer.mask.filled(), if corner.is_positive() { 0 } else { all });
+            assert_eq!(touches_edge(&layer.mask), !corner.is_positive());
         }
         let beyond = Fraction::of_units(i128::from(i32::MAX) - 2 * 1300 + 2);
         assert!(Plate::new((1300, 700), [Fraction::of_units(2); 2], Origin::Corner([beyond; 2]), 1, false).is_err());
@@ -292,8 +255,8 @@ mod tests {
         let plate = plate((16, 3), "1", 1);
         let tape = Tape::from_text("y").expect("a tape");
         let layer = layer(&tape, &plate, 0, Share::Nothing).expect("a layer");
-        let rows = |mask: Mask| (0..3).map(|y| level_at(&mask, 15, y)).collect::<Vec<_>>();
-        assert_eq!(rows(layer.clone().into_mask(false)), [255, 0, 0]);
-        assert_eq!(rows(layer.into_mask(true)), [0, 0, 255]);
+        let rows = |mask: &Mask| (0..3).map(|y| mask.level(15, y)).collect::<Vec<_>>();
+        assert_eq!(rows(&layer.mask), [255, 0, 0]);
+        assert_eq!(rows(&flipped(&layer.mask)), [0, 0, 255]);
     }
 }

@@ -92,8 +92,8 @@ impl Stop {
             members.push(("refused".to_string(), Value::Whole((*number).into())));
             let place = match place {
                 Place::Whole => Value::Null,
-                Place::Clause(clause) => object([("clause", Value::Whole((*clause).into()))]),
-                Place::Byte(byte) => object([("byte", Value::Whole(*byte as i128))]),
+                Place::Clause(clause) => Value::object([("clause", Value::Whole((*clause).into()))]),
+                Place::Byte(byte) => Value::object([("byte", Value::Whole(*byte as i128))]),
             };
             members.push(("place".to_string(), place));
         }
@@ -106,11 +106,6 @@ impl From<Refusal> for Stop {
     fn from(refusal: Refusal) -> Stop {
         Stop::refused(refusal, "")
     }
-}
-
-/// An object of these members.
-pub fn object<const N: usize>(members: [(&str, Value); N]) -> Value {
-    Value::Object(members.into_iter().map(|(name, value)| (name.to_string(), value)).collect())
 }
 
 /// A text as a value.
@@ -151,7 +146,10 @@ mod tests {
     fn runs_and_groups_are_shown_short() {
         assert_eq!(runs(&[]), "none");
         assert_eq!(runs(&[0, 1, 2, 3, 7, 9, 10]), "0 to 3, 7, 9 to 10");
-        assert_eq!(["1", "999", "1,000", "12,345,678"], [1, 999, 1_000, 12_345_678].map(grouped).map(|s| s.leak() as &str));
+        assert_eq!(
+            ["1", "999", "1,000", "12,345,678"],
+            [1, 999, 1_000, 12_345_678].map(grouped).map(|s| s.leak() as &str)
+        );
     }
 
     #[test]

@@ -57,7 +57,7 @@ impl Part {
                 Ok(Part { name, tape, text: None, own: Some(own) })
             }
             Some(b"TP") if !is_text => {
-                let tape = Tape::from_bytes(&bytes).map_err(|refusal| Stop::refused(refusal, &name))?;
+                let tape = Tape::from_bytes(&bytes[..]).map_err(|refusal| Stop::refused(refusal, &name))?;
                 Ok(Part { name, tape, text: None, own: None })
             }
             _ => {
@@ -88,8 +88,10 @@ impl Part {
     pub fn clause_name(&self, clause: usize) -> String {
         let span = self.text.as_ref().and_then(|text| Some((text, text.spans.get(clause)?)));
         match span {
-            Some((text, span)) => format!("{} at {}", shown(text, span), byte_name(text, span.bytes.start)),
-            None => format!("clause {clause} (counted from 0, {:?})", self.tape.clauses()[clause].opcode).to_lowercase(),
+            Some((text, span)) => format!("{} at byte {}", shown(text, span), span.bytes.start),
+            None => {
+                format!("clause {clause} (counted from 0, {:?})", self.tape.clauses()[clause].opcode).to_lowercase()
+            }
         }
     }
 
@@ -120,11 +122,6 @@ fn shown(text: &Text, span: &Span) -> String {
         Some((cut, _)) => format!("{}…", &words[..cut]),
         None => words,
     }
-}
-
-fn byte_name(text: &Text, byte: usize) -> String {
-    let _ = text;
-    format!("byte {byte}")
 }
 
 /// The formula in one line with single spaces: spaces mean nothing between the parts of a formula.
@@ -232,13 +229,14 @@ mod tests {
 
     #[test]
     fn a_text_keeps_its_bytes_and_its_grid_line() {
-        let text = b"# a disc \xC3\xA9\n# solid 30 20 4 from -3 -2 0 step 0.2 0.2 0.05\r\nroot(sqr(x)\n + sqr(y)) - 1\n";
+        let text =
+            b"# a disc \xC3\xA9\n# solid 30 20 4 from -3 -2 0 step 0.2 0.2 0.05\r\nroot(sqr(x)\n + sqr(y)) - 1\n";
         let part = read("disc.txt", text).expect("a part");
         assert_eq!(part.tape.clauses().len(), 8);
         let formula = &part.text.as_ref().expect("a text").formula;
         assert_eq!(formula.len(), text.len());
-        assert_eq!(formula.find("root"), Some(63));
-        assert_eq!(part.clause_name(4), "sqr(x) + sqr(y) at byte 68");
+        assert_eq!(formula.find("root"), Some(60));
+        assert_eq!(part.clause_name(4), "sqr(x) + sqr(y) at byte 65");
         assert_eq!(part.operand_name(1), "x");
         let own = part.own.expect("a grid");
         assert_eq!((own.width, own.height, own.depth), (30, 20, 4));
@@ -267,7 +265,10 @@ mod tests {
         let own = part.own.as_ref().expect("a grid");
         assert_eq!((own.width, own.height, own.depth), (3, 2, 0));
         assert_eq!(own.origin.map(|origin| origin.to_string()), ["-1", "0", "1/2"]);
-        assert_eq!((part.tape.clone(), part.clause_name(2)), (tape.clone(), "clause 2 (counted from 0, subtract)".into()));
+        assert_eq!(
+            (part.tape.clone(), part.clause_name(2)),
+            (tape.clone(), "clause 2 (counted from 0, subtract)".into())
+        );
         assert_eq!(read("x.tape", tape.as_bytes()).expect("a part").own, None);
         for (bytes, number) in [(&record[..31], 15), (&record[..], 1), (&b"TP"[..], 1), (b"?", 17)] {
             let stop = read("bad", bytes).expect_err("refused");

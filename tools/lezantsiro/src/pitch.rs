@@ -27,7 +27,8 @@ impl Axis {
     fn in_units(pitch: Fraction, origin: Fraction, count: u32) -> Option<Axis> {
         let [step, origin] = [pitch, origin].map(|length| length * Fraction::whole(UNITS));
         (step.is_whole() && origin.is_whole()).then_some(())?;
-        Axis { count, origin: origin.num().try_into().ok()?, step: step.num().try_into().ok()?, divisor: None }.fitting()
+        Axis { count, origin: origin.num().try_into().ok()?, step: step.num().try_into().ok()?, divisor: None }
+            .fitting()
     }
 
     /// The fraction is widened by the odd number that makes the origin whole on the grid too, which is 1 as a rule.

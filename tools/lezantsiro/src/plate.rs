@@ -216,9 +216,9 @@ impl Levels {
         self.z(layer).floor_units()
     }
 
-    /// From the lowest z to the highest, in units.
-    pub fn range(&self) -> [i128; 2] {
-        [self.units(0), self.units(self.count() - 1)]
+    /// The z of every layer in units, the lowest first.
+    pub fn all_units(&self) -> Vec<i128> {
+        (0..self.count()).map(|layer| self.units(layer)).collect()
     }
 }
 

@@ -158,7 +158,8 @@ mod tests {
 
     #[test]
     fn the_order_is_the_tapes() {
-        for text in ["-x*y + 1.5", "x--y", " max ( min(x,y),-abs(z)/2 ) ", "(((x)))-((y)*(z+1))/2", "x - y - z*2/3*-4"] {
+        for text in ["-x*y + 1.5", "x--y", " max ( min(x,y),-abs(z)/2 ) ", "(((x)))-((y)*(z+1))/2", "x - y - z*2/3*-4"]
+        {
             shown(text);
         }
     }

@@ -171,7 +171,8 @@ impl FromStr for Fraction {
                 None => (text, 1),
             },
         };
-        let length = fraction(number.trim_end()).ok_or(format!("'{text}' is no length such as 0.05mm, 1/20 or 50um"))?;
+        let length =
+            fraction(number.trim_end()).ok_or(format!("'{text}' is no length such as 0.05mm, 1/20 or 50um"))?;
         let length = length * Fraction::new(1, scale);
         if length.abs() > Fraction::whole(LONGEST) || length.den > FINEST {
             return Err(format!("'{text}' is longer than {LONGEST} mm, or finer than 1/{FINEST} mm"));
@@ -225,7 +226,9 @@ mod tests {
         }
         assert_eq!(length("-0.035"), Fraction::new(-7, 200));
         assert_eq!(length("0"), Fraction::whole(0));
-        for wrong in ["", "mm", "0.05cm", "1/0", "--1", "1.", "1e3", "0x1", "1/2/3", "100001", "0.0000001", "+1", "1 /2"] {
+        for wrong in
+            ["", "mm", "0.05cm", "1/0", "--1", "1.", "1e3", "0x1", "1/2/3", "100001", "0.0000001", "+1", "1 /2"]
+        {
             assert!(wrong.parse::<Fraction>().is_err(), "{wrong}");
         }
     }
