@@ -337,6 +337,7 @@ fn pbm_header(file: &[u8]) -> Option<((u32, u32), &[u8])> {
 mod tests {
     use super::*;
     use crate::tests::{Folder, other};
+    use std::ffi::OsStr;
     use std::fs;
 
     const STYLE: Style = Style { format: Format::Png1, material: Material::White, density: Some((20_000, 19_999)) };
@@ -489,50 +490,52 @@ mod tests {
         }
     }
 
-    /// Python's zlib, and a few lines that know PNG and P4: levels as text, then pixels a metre.
+    /// Python's zlib, and a few lines that know PNG and P4: for each file a line of levels, then one of pixels a metre.
     const READER: &str = r"
 import struct, sys, zlib
-data = open(sys.argv[1], 'rb').read()
-density = 'none'
-if data[:2] == b'P4':
-    width, height = (int(n) for n in data.split(b'\n')[1].split())
-    depth, rows = 1, data.split(b'\n', 2)[2]
-    row = (width + 7) // 8
-    rows = [rows[i * row:(i + 1) * row] for i in range(height)]
-else:
-    assert data[:8] == b'\x89PNG\r\n\x1a\n'
-    at, pixels, ended = 8, b'', False
-    while at < len(data):
-        size, kind = struct.unpack('>I4s', data[at:at + 8])
-        body = data[at + 8:at + 8 + size]
-        assert struct.unpack('>I', data[at + 8 + size:at + 12 + size])[0] == zlib.crc32(kind + body)
-        at += 12 + size
-        if kind == b'IHDR':
-            width, height, depth, colour, packing, filters, lace = struct.unpack('>IIBBBBB', body)
-            assert (colour, packing, filters, lace) == (0, 0, 0, 0)
-        if kind == b'pHYs':
-            x, y, unit = struct.unpack('>IIB', body)
-            assert unit == 1 and not pixels
-            density = '%d %d' % (x, y)
-        if kind == b'IDAT':
-            pixels += body
-        if kind == b'IEND':
-            ended = at == len(data)
-    assert ended
-    pixels = zlib.decompress(pixels)
-    row = (width * depth + 7) // 8
-    assert len(pixels) == (row + 1) * height
-    rows = []
-    for i in range(height):
-        line = pixels[i * (row + 1):(i + 1) * (row + 1)]
-        assert line[0] == 0
-        rows.append(line[1:])
-for line in rows:
-    if depth == 1:
-        print(*(255 * (line[i // 8] >> (7 - i % 8) & 1) for i in range(width)))
+for path in sys.argv[1:]:
+    data = open(path, 'rb').read()
+    density = 'none'
+    if data[:2] == b'P4':
+        width, height = (int(n) for n in data.split(b'\n')[1].split())
+        depth, rows = 1, data.split(b'\n', 2)[2]
+        row = (width + 7) // 8
+        rows = [rows[i * row:(i + 1) * row] for i in range(height)]
     else:
-        print(*line)
-print(density)
+        assert data[:8] == b'\x89PNG\r\n\x1a\n'
+        at, pixels, ended = 8, b'', False
+        while at < len(data):
+            size, kind = struct.unpack('>I4s', data[at:at + 8])
+            body = data[at + 8:at + 8 + size]
+            assert struct.unpack('>I', data[at + 8 + size:at + 12 + size])[0] == zlib.crc32(kind + body)
+            at += 12 + size
+            if kind == b'IHDR':
+                width, height, depth, colour, packing, filters, lace = struct.unpack('>IIBBBBB', body)
+                assert (colour, packing, filters, lace) == (0, 0, 0, 0)
+            if kind == b'pHYs':
+                x, y, unit = struct.unpack('>IIB', body)
+                assert unit == 1 and not pixels
+                density = '%d %d' % (x, y)
+            if kind == b'IDAT':
+                pixels += body
+            if kind == b'IEND':
+                ended = at == len(data)
+        assert ended
+        pixels = zlib.decompress(pixels)
+        row = (width * depth + 7) // 8
+        assert len(pixels) == (row + 1) * height
+        rows = []
+        for i in range(height):
+            line = pixels[i * (row + 1):(i + 1) * (row + 1)]
+            assert line[0] == 0
+            rows.append(line[1:])
+    for line in rows:
+        if depth == 1:
+            print(*(255 * (line[i // 8] >> (7 - i % 8) & 1) for i in range(width)), end=' ')
+        else:
+            print(*line, end=' ')
+    print()
+    print(density)
 ";
 
     /// Colours as another program has them: those of a PNG as they are, those of a PBM 255 for material.
@@ -544,19 +547,26 @@ print(density)
     #[test]
     fn another_program_reads_the_same() {
         let folder = Folder::new();
-        let path = folder.path("mask");
-        for (width, height, grey) in [(1, 1, false), (19, 7, false), (64, 9, false), (33, 8, true)] {
-            let mask = random(width, height, grey);
-            for style in styles(grey) {
-                fs::write(&path, file(&mask, style)).unwrap();
-                let Some(said) = other("python3", &["-c".as_ref(), READER.as_ref(), path.as_ref()]) else { return };
-                let (pixels, density) = said.trim_end().rsplit_once('\n').unwrap();
-                let pixels: Vec<u8> = pixels.split_whitespace().map(|level| level.parse().unwrap()).collect();
-                assert_eq!(pixels, colours(&mask, style), "{width} by {height}, {style:?}");
-                let written = if style.format == Format::Pbm { "none" } else { "20000 19999" };
-                assert_eq!(density, written);
-            }
+        let sizes = [(1, 1, false), (19, 7, false), (64, 9, false), (33, 8, true)];
+        let masks = sizes.map(|(width, height, grey)| (random(width, height, grey), styles(grey)));
+        let cases: Vec<_> =
+            masks.iter().flat_map(|(mask, styles)| styles.iter().map(move |style| (mask, *style))).collect();
+        let paths: Vec<_> = (0..cases.len()).map(|number| folder.path(&number.to_string())).collect();
+        for ((mask, style), path) in cases.iter().zip(&paths) {
+            fs::write(path, file(mask, *style)).unwrap();
         }
+        let arguments: Vec<&OsStr> =
+            ["-c", READER].into_iter().map(OsStr::new).chain(paths.iter().map(|path| path.as_os_str())).collect();
+        let Some(said) = other("python3", &arguments) else { return };
+        let mut lines = said.lines();
+        for (mask, style) in cases {
+            let pixels: Vec<u8> =
+                lines.next().unwrap().split_whitespace().map(|level| level.parse().unwrap()).collect();
+            assert_eq!(pixels, colours(mask, style), "{style:?}");
+            let written = if style.format == Format::Pbm { "none" } else { "20000 19999" };
+            assert_eq!(lines.next(), Some(written));
+        }
+        assert_eq!(lines.next(), None);
     }
 
     /// Netpbm's pngtopnm where it is at hand: P4 or P5, in plain letters.
