@@ -44,10 +44,24 @@ fn at_level(clauses: &[Clause], ranges: [Range; 3]) -> Option<Clamped> {
 
 fn search(clauses: &[Clause], ranges: [Range; 3], halvings: u32) -> Option<Clamped> {
     let (clause, range) = first_beyond(clauses, ranges)?;
-    let Some([low, high]) = halves(ranges).filter(|_| halvings > 0) else {
-        return Some(Clamped { clause, range, near: ranges });
+    match halves(ranges) {
+        Some([low, high]) if halvings > 0 => {
+            search(clauses, low, halvings - 1).or_else(|| search(clauses, high, halvings - 1))
+        }
+        _ => Some(sharpened(clauses, Clamped { clause, range, near: ranges })),
+    }
+}
+
+/// The same clause in as small a box as halving leads to: a place to point at.
+fn sharpened(clauses: &[Clause], found: Clamped) -> Clamped {
+    let within = |part: [Range; 3]| {
+        let (clause, range) = first_beyond(&clauses[..=found.clause], part)?;
+        (clause == found.clause).then_some(Clamped { clause, range, near: part })
     };
-    search(clauses, low, halvings - 1).or_else(|| search(clauses, high, halvings - 1))
+    match halves(found.near).and_then(|[low, high]| within(high).or_else(|| within(low))) {
+        Some(smaller) => sharpened(clauses, smaller),
+        None => found,
+    }
 }
 
 /// The box cut in two across its longest side; `None` for a single point.

@@ -192,6 +192,6 @@ fn a_check_says_what_a_run_would_meet() {
     ] {
         assert!(said.lines().any(|found| found == line), "{line}\n{said}");
     }
-    assert!(said.contains("layers that touch the plate's edge: 4 to 11"), "{said}");
+    assert!(said.contains("layers that touch the plate's edge: 3 to 12"), "{said}");
     assert_eq!(names(&folder.0), ["ball.txt"]);
 }

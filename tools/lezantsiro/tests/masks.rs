@@ -89,7 +89,7 @@ fn y_goes_up_unless_told() {
 fn origins_are_centre_corner_or_given() {
     let folder = Folder::new();
     // material from x = 2 on: columns counted from the plate's left
-    for (index, (origin, empty)) in [("centre", 6), ("corner", 2), ("-1,0", 3), ("1.5,-7", 0)].into_iter().enumerate() {
+    for (index, (origin, empty)) in [("centre", 6), ("corner", 2), ("-1,0", 3), ("1.5,-7", 1)].into_iter().enumerate() {
         folder.well(&format!("layer --formula 2-x --z 0 --size 8x4 --pitch 1 --origin {origin} --out m{index}"));
         let (mask, _) = folder.mask(&format!("m{index}/layer00000.png"));
         let found = (0..8).take_while(|column| mask.level(*column, 0) == 0).count();
