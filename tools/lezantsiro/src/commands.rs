@@ -6,8 +6,8 @@ use crate::manifest::{Heading, Manifest, Shard};
 use crate::messages::{Stop, grouped, text};
 use crate::part::Part;
 use crate::pitch::scaled_tape;
-use crate::plate::{Levels, Plate, samples};
-use crate::relief::relief;
+use crate::plate::{Levels, Plate, Samples, samples};
+use crate::relief::{Relief, relief};
 use crate::stack::{self, Done, no_room};
 use crate::units::Fraction;
 use crate::{archive, printers, setup, verify};
@@ -139,52 +139,62 @@ fn done_json(dir: &Path, plate: &Plate, done: &Done) -> Value {
 fn heights(args: &HeightsArgs) -> Result<Said, Stop> {
     let part = setup::part(&args.part)?;
     let plate = setup::plate(&args.plate, &part, 1)?;
-    let Levels::Stack { from, height, count } = setup::levels(&args.levels, &part)? else {
-        return Err(Stop::Usage("heights need layers".to_string()));
-    };
-    if count > u16::MAX.into() {
-        return Err(Stop::Usage(format!("heights have at most {} layers, not {count}", u16::MAX)));
-    }
-    let z = samples("z", height, Some(from), count, args.plate.pitch_nearest)?;
-    let levels: Vec<i128> = (0..count).map(|layer| z.units(layer)).collect();
+    let z = layers_of_heights(args, &part)?;
+    let levels: Vec<i128> = (0..z.axis.count).map(|layer| z.units(layer)).collect();
     let clamped = setup::guarded(&part, &plate, &levels, args.plate.allow_clamped)?;
     let tape = scaled_tape(&part.tape, [plate.x, plate.y, z].map(|samples| samples.axis.divisor)).map_err(no_room)?;
     let began = Instant::now();
     let drawn = relief(&tape, &plate, &z, args.shade)?;
+    let drawing = began.elapsed().as_secs_f64();
     let drawn = if args.y == "up" { drawn.flipped() } else { drawn };
-    let drawing = began.elapsed();
     let dir = setup::folder(&args.out, &args.part);
-    std::fs::create_dir_all(&dir).map_err(|error| Stop::unwritten(&dir, &error))?;
-    whole::remove_leftovers(&dir).map_err(|error| Stop::unwritten(&dir, &error))?;
-    let path = dir.join("heights.pgm");
-    whole::write(&path, |to| to.write_all(&drawn.to_netpbm())).map_err(|error| Stop::unwritten(&path, &error))?;
-    let highest = drawn.heights.iter().max().copied().unwrap_or(0);
-    let mut lines = vec![format!(
-        "{}: {} by {} pixels, {count} layers, the highest with material is {}; drawn in {:.2} s",
-        path.display(),
-        plate.width,
-        plate.height,
-        highest.checked_sub(1).map_or("none".to_string(), |layer| layer.to_string()),
-        drawing.as_secs_f64()
-    )];
+    let mut lines = write_heights(&dir, &drawn, drawing)?;
     if args.shade {
-        let picture = Mask::new(plate.width, plate.height, Pixels::Grey(drawn.shaded(&plate, &z)));
-        let shade = dir.join("shade.png");
-        let style = Style { format: Format::Png8, material: Material::White, density: plate.density() };
-        let picture = picture.ok_or_else(|| Stop::Usage("a picture without pixels".to_string()))?;
-        whole::write(&shade, |to| encode(&picture, style, to)).map_err(|error| Stop::unwritten(&shade, &error))?;
-        lines.push(format!("to look at: {}", shade.display()));
+        lines.push(write_shade(&dir, &drawn, &plate, &z)?);
     }
     lines.extend(clamped.map(|words| format!("clamped, as allowed: {words}")));
+    lines.extend(off_words(&plate));
     let value = Value::object([
         ("status", Value::Whole(0)),
         ("dir", text(dir.display())),
-        ("layers", Value::Whole(count.into())),
-        ("highest", Value::Whole(highest.into())),
+        ("layers", Value::Whole(drawn.depth.into())),
+        ("highest", Value::Whole(drawn.highest().into())),
         ("count", Value::Whole(drawn.count.into())),
-        ("drawing_seconds", Value::Real(drawing.as_secs_f64())),
+        ("drawing_seconds", Value::Real(drawing)),
     ]);
     Ok(Said::well(lines, value))
+}
+
+/// The layers that heights count, as samples along z.
+fn layers_of_heights(args: &HeightsArgs, part: &Part) -> Result<Samples, Stop> {
+    match setup::levels(&args.levels, part)? {
+        Levels::Stack { from, height, count } if count <= u16::MAX.into() => {
+            samples("z", height, Some(from), count, args.plate.pitch_nearest)
+        }
+        levels => Err(Stop::Usage(format!("heights have at most {} layers, not {}", u16::MAX, levels.count()))),
+    }
+}
+
+fn write_heights(dir: &Path, drawn: &Relief, seconds: f64) -> Result<Vec<String>, Stop> {
+    std::fs::create_dir_all(dir).map_err(|error| Stop::unwritten(dir, &error))?;
+    whole::remove_leftovers(dir).map_err(|error| Stop::unwritten(dir, &error))?;
+    let path = dir.join("heights.pgm");
+    whole::write(&path, |to| to.write_all(&drawn.to_netpbm())).map_err(|error| Stop::unwritten(&path, &error))?;
+    let highest = drawn.highest().checked_sub(1).map_or("none".to_string(), |layer| layer.to_string());
+    let (width, height, layers) = (drawn.width, drawn.height, drawn.depth);
+    Ok(vec![
+        format!("{}: {width} by {height} pixels, {layers} layers", path.display()),
+        format!("the highest layer with material is {highest}; drawn in {seconds:.2} s"),
+    ])
+}
+
+fn write_shade(dir: &Path, drawn: &Relief, plate: &Plate, z: &Samples) -> Result<String, Stop> {
+    let path = dir.join("shade.png");
+    let style = Style { format: Format::Png8, material: Material::White, density: plate.density() };
+    let picture = Mask::new(plate.width, plate.height, Pixels::Grey(drawn.shaded(plate, z)));
+    let picture = picture.ok_or_else(|| Stop::Usage("a picture without pixels".to_string()))?;
+    whole::write(&path, |to| encode(&picture, style, to)).map_err(|error| Stop::unwritten(&path, &error))?;
+    Ok(format!("to look at: {}", path.display()))
 }
 
 fn probe(args: &ProbeArgs) -> Result<Said, Stop> {

@@ -19,7 +19,7 @@ pub struct Progress {
 }
 
 impl Progress {
-    /// Of `total` pieces, called `what`, of which `before` were there.
+    /// Of `total` pieces, called `what`; `quiet` shows nothing.
     pub fn new(what: &'static str, total: u64, quiet: bool) -> Progress {
         let done = Arc::new(AtomicU64::new(0));
         let terminal = std::io::stderr().is_terminal();

@@ -102,6 +102,11 @@ impl Relief {
         Relief { heights, slopes, ..*self }
     }
 
+    /// The greatest height.
+    pub fn highest(&self) -> u16 {
+        self.heights.iter().max().copied().unwrap_or(0)
+    }
+
     /// The heights as a Netpbm grey file of 16 bits, the high byte first.
     pub fn to_netpbm(&self) -> Vec<u8> {
         let head = format!("P5\n{} {}\n65535\n", self.width, self.height);
