@@ -9,8 +9,8 @@ use files::mask::{Format, Material};
 use std::path::PathBuf;
 
 const AFTER: &str = "\
-Every pixel comes from a call of the proved core. This program places blocks of 512 by 512 pixels, scales axes so that a \
-pitch is exact, and writes files; it is tested, not proved.
+Every pixel comes from a call of the proved core. This program places blocks of 512 by 512 pixels, scales axes so that \
+a pitch is exact, and writes files; it is tested, not proved.
 
 A PART is a formula as text (NAME.txt, or --formula), a .part with its grid, or a tape. What the flags leave out is \
 taken from the part's own grid. Lengths are in mm: 0.05, 0.05mm, 1/20, 50um.

@@ -1,7 +1,7 @@
-//! Whether values can clamp on the plate. The core's values end at ±2,147,483,647 units, just short of ±32,768; what goes
-//! beyond stays at the end, and the picture is then not the formula's. So before drawing the tape is run over the plate's
-//! ranges in wide numbers that do not clamp. Ranges are wider than what the formula has, so this errs on the side of
-//! warning; boxes that look wrong are cut smaller before anything is said.
+//! Whether values can clamp on the plate. The core's values end at ±2,147,483,647 units, just short of ±32,768; what
+//! goes beyond stays at the end, and the picture is then not the formula's. So before drawing the tape is run over the
+//! plate's ranges in wide numbers that do not clamp. Ranges are wider than what the formula has, so this errs on the
+//! side of warning; boxes that look wrong are cut smaller before anything is said.
 
 use crate::part::Part;
 use crate::units::{Fraction, GREATEST};

@@ -1,6 +1,6 @@
-//! A pitch, exactly. The core's grids have steps of whole units of 1/65,536, and 0.05 mm is none. So a pitch of p/q mm is
-//! drawn on a grid whose step is p·t, where t = 65,536 / 2^⌈log₂ p⌉, and the tape divides each coordinate by q·t: by the
-//! core's own quotient it is then the exact coordinate in mm, rounded down to a unit.
+//! A pitch, exactly. The core's grids have steps of whole units of 1/65,536, and 0.05 mm is none. So a pitch of p/q mm
+//! is drawn on a grid whose step is p·t, where t = 65,536 / 2^⌈log₂ p⌉, and the tape divides each coordinate by q·t: by
+//! the core's own quotient it is then the exact coordinate in mm, rounded down to a unit.
 
 use crate::units::{Fraction, GREATEST, UNITS};
 use layers::{Clause, Opcode, Refusal, Tape};

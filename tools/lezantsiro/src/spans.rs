@@ -1,5 +1,5 @@
-//! Where in a text each clause of its tape comes from. The proved reader has accepted the text before this is asked, and
-//! has said which clauses it has; here the same text is gone through once more, in the same order, only to find the
+//! Where in a text each clause of its tape comes from. The proved reader has accepted the text before this is asked,
+//! and has said which clauses it has; here the same text is gone through once more, in the same order, only to find the
 //! bytes. They are used in messages and nowhere else.
 
 use layers::Opcode;

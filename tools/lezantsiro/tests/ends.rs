@@ -7,8 +7,8 @@ use layers::{Clause, Tape};
 
 const PLATE: &str = "--size 64x48 --pitch 0.5mm";
 
-/// Every line of the core's table that the program can meet, and the words that tell it. Lines 10, 12, 13, 14 and 16 are
-/// about sizes and buffers that it never asks for.
+/// Every line of the core's table that the program can meet, and the words that tell it. Lines 10, 12, 13, 14 and 16
+/// are about sizes and buffers that it never asks for.
 #[test]
 fn every_refusal_has_its_number_place_and_words() {
     let folder = Folder::new();
