@@ -5,8 +5,9 @@ mod common;
 use common::{Ended, Folder, RING, contents, names};
 use std::fs;
 use std::os::unix::process::ExitStatusExt;
+use std::path::Path;
 use std::process::{Command, Stdio};
-use std::time::Duration;
+use std::time::{Duration, Instant};
 
 const FLAGS: &str = "stack ring.txt --size 1100x900 --pitch 0.0225mm --layer-height 0.05mm --z-from 0 --z-to 3 --quiet";
 
@@ -17,35 +18,49 @@ fn next(state: &mut u64) -> u64 {
 }
 
 /// Killed at random moments, again and again: only whole files are there, and at last all of them, byte for byte those
-/// of one run.
+/// of one run. A run that was quicker than its killer is begun anew.
 #[test]
 fn kill_9_leaves_whole_files_and_the_next_run_goes_on() {
     let mut state = 37;
     println!("seed {state}");
     let folder = Folder::new();
     folder.write("ring.txt", RING);
+    let began = Instant::now();
     folder.well(&format!("{FLAGS} --out whole"));
+    let taken = began.elapsed().as_micros() as u64;
     let whole = contents(&folder.path("whole"));
-    let (mut killed, mut partial) = (0, 0);
-    for _ in 0..12 {
-        let mut child = folder.command(&format!("{FLAGS} --out out --jobs 2")).stdout(Stdio::null()).spawn().unwrap();
-        std::thread::sleep(Duration::from_millis(10 + next(&mut state) % 150));
+    let (mut killed, mut found) = (0, 0);
+    for _ in 0..60 {
+        let mut child = folder.command(&format!("{FLAGS} --out out")).stdout(Stdio::null()).spawn().unwrap();
+        std::thread::sleep(Duration::from_micros(next(&mut state) % taken));
         child.kill().unwrap();
-        killed += u32::from(child.wait().unwrap().signal() == Some(9));
-        let found = if folder.path("out").exists() { contents(&folder.path("out")) } else { Vec::new() };
-        for (name, bytes) in &found {
-            if name.starts_with("layer") {
-                let same = whole.iter().find(|(other, _)| other == name).map(|(_, bytes)| bytes);
-                assert_eq!(Some(bytes), same, "{name} is not whole");
-                partial += 1;
-            } else {
-                assert!(name == "manifest.json" || name.ends_with(".unfinished"), "{name}");
-            }
+        let by_signal = child.wait().unwrap().signal() == Some(9);
+        found += whole_masks(&folder.path("out"), &whole);
+        killed += u32::from(by_signal);
+        if killed == 8 && found > 0 {
+            break;
+        }
+        if !by_signal {
+            fs::remove_dir_all(folder.path("out")).unwrap();
         }
     }
-    assert!(killed > 3 && partial > 0, "killed {killed} times, {partial} files");
+    assert!(killed > 1 && found > 0, "killed {killed} times, {found} masks found");
     folder.well(&format!("{FLAGS} --out out"));
     assert_eq!(contents(&folder.path("out")), whole);
+}
+
+/// How many masks are there; each is that of the whole run, and what is not whole does not have a mask's name.
+fn whole_masks(dir: &Path, whole: &[(String, Vec<u8>)]) -> usize {
+    let found = if dir.exists() { contents(dir) } else { Vec::new() };
+    let (masks, others): (Vec<_>, Vec<_>) = found.iter().partition(|(name, _)| name.starts_with("layer"));
+    for (name, bytes) in &masks {
+        let same = whole.iter().find(|(other, _)| other == name).map(|(_, bytes)| bytes);
+        assert_eq!(Some(bytes), same, "{name} is not whole");
+    }
+    for (name, _) in others {
+        assert!(name == "manifest.json" || name.ends_with(".unfinished"), "{name}");
+    }
+    masks.len()
 }
 
 #[test]
