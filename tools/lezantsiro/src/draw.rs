@@ -41,7 +41,7 @@ fn layer_by(
     };
     let drawn = drawn.map_err(|refusal| Stop::refused(refusal, &format!("the layer at z = {z} units")))?;
     let count = drawn.iter().map(|band| band.1).sum();
-    let bytes = drawn.into_iter().flat_map(|band| band.0).collect();
+    let bytes = drawn.iter().map(|band| &band.0[..]).collect::<Vec<_>>().concat();
     let pixels = if plate.aa == 1 { Pixels::Bits(bytes) } else { Pixels::Grey(bytes) };
     Ok(Layer { mask: masked(plate.width, plate.height, pixels), count })
 }
@@ -106,7 +106,7 @@ fn masked(width: u32, height: u32, pixels: Pixels) -> Mask {
 
 /// The mask with its rows the other way round: the first is that of the greatest y, or again of the least.
 pub fn flipped(mask: &Mask) -> Mask {
-    let rows = |bytes: &[u8], stride: usize| bytes.chunks(stride).rev().flatten().copied().collect();
+    let rows = |bytes: &[u8], stride: usize| bytes.chunks(stride).rev().collect::<Vec<_>>().concat();
     let pixels = match mask.pixels() {
         Pixels::Bits(bits) => Pixels::Bits(rows(bits, row_bytes(mask.width()))),
         Pixels::Grey(greys) => Pixels::Grey(rows(greys, mask.width() as usize)),

@@ -166,7 +166,7 @@ impl<'a> Work<'a> {
         let units = self.heading.levels.units(index);
         let z = i32::try_from(units).map_err(|_| Stop::from(Refusal::SampleOutOfRange))?;
         let drawn = self.drawing.time(|| layer(self.tape, &self.plate, z, share))?;
-        let sha256 = self.writing.time(|| self.write(index, drawn.mask.clone()))?;
+        let sha256 = self.writing.time(|| self.write(index, &drawn.mask))?;
         let record = Record { z: units, count: drawn.count, pixels: drawn.mask.filled(), sha256 };
         let mut state = self.state.lock().unwrap_or_else(|poisoned| poisoned.into_inner());
         state.manifest.records.insert(index, record);
@@ -178,12 +178,12 @@ impl<'a> Work<'a> {
     }
 
     /// Writes a mask, whole, and gives its checksum.
-    fn write(&self, layer: u32, mask: Mask) -> Result<String, Stop> {
+    fn write(&self, layer: u32, mask: &Mask) -> Result<String, Stop> {
         let path = self.dir.join(self.heading.file_name(layer));
         let unwritten = |error: std::io::Error| Stop::unwritten(&path, &error);
-        let mask = if self.heading.up { flipped(&mask) } else { mask };
+        let turned = self.heading.up.then(|| flipped(mask));
         let mut file = Vec::new();
-        encode(&mask, self.style, &mut file).map_err(unwritten)?;
+        encode(turned.as_ref().unwrap_or(mask), self.style, &mut file).map_err(unwritten)?;
         whole::write(&path, |to| to.write_all(&file)).map_err(unwritten)?;
         Ok(sha256::hex(&sha256::of(&file)))
     }
