@@ -215,14 +215,11 @@ fn probe(args: &ProbeArgs) -> Result<Said, Stop> {
         Probe::Outside(value) => ("outside", value),
         Probe::Surface => ("surface", 0.0),
     };
-    let exact = Fraction::of_units((value * 65_536.0) as i128);
-    let value = Value::object([
-        ("status", Value::Whole(0)),
-        ("side", text(side)),
-        ("value", text(exact)),
-        ("units", Value::Whole((value * 65_536.0) as i128)),
-    ]);
-    Ok(Said::well(vec![format!("{side}, {}", exact.decimal())], value))
+    let lines = vec![format!("{side}, {value}")];
+    // a whole number of units, as the core has it
+    let units = Value::Whole((value * 65_536.0) as i128);
+    let value = Value::object([("status", Value::Whole(0)), ("side", text(side)), ("units", units)]);
+    Ok(Said::well(lines, value))
 }
 
 fn checked(args: &CheckArgs, quiet: bool) -> Result<Said, Stop> {

@@ -31,31 +31,35 @@ use std::process::ExitCode;
 fn main() -> ExitCode {
     let cli = Cli::parse();
     match run(&cli) {
-        Ok(()) => ExitCode::SUCCESS,
+        Ok(None) => ExitCode::SUCCESS,
+        Ok(Some(stop)) => ended(&stop),
         Err(stop) => {
             if cli.json {
                 say(&files::json::line(&stop.to_json()));
             }
-            // nobody may be reading
-            let _ = writeln!(std::io::stderr(), "lezantsiro: {stop}");
-            stop.exit_code()
+            ended(&stop)
         }
     }
 }
 
-fn run(cli: &Cli) -> Result<(), Stop> {
+/// Runs the command and says its result, which can be a bad end all the same.
+fn run(cli: &Cli) -> Result<Option<Stop>, Stop> {
     let threads = cli.jobs.map_or(0, usize::from);
     let pool = rayon::ThreadPoolBuilder::new().num_threads(threads).build();
     let pool = pool.map_err(|error| Stop::Usage(format!("no {threads} threads can be had: {error}")))?;
     let said = pool.install(|| commands::run(cli))?;
-    let text = if cli.json { files::json::line(&said.value) } else { said.lines.join("\n") };
-    if cli.json || !cli.quiet {
-        say(&text);
+    if cli.json {
+        say(&files::json::line(&said.value));
+    } else if !cli.quiet {
+        say(&said.lines.join("\n"));
     }
-    match said.stop {
-        Some(stop) => Err(stop),
-        None => Ok(()),
-    }
+    Ok(said.stop)
+}
+
+fn ended(stop: &Stop) -> ExitCode {
+    // nobody may be reading
+    let _ = writeln!(std::io::stderr(), "lezantsiro: {stop}");
+    stop.exit_code()
 }
 
 /// A line on standard output. Who reads it may have gone.

@@ -2,7 +2,7 @@
 
 use crate::manifest::{Heading, Manifest, Record};
 use crate::messages::{Stop, runs};
-use crate::plate::Plate;
+use crate::plate::{Plate, Samples};
 use crate::progress::Progress;
 use crate::random::Random;
 use files::mask::{Mask, decode, level};
@@ -93,12 +93,13 @@ pub struct Verified {
 /// Every mask against its manifest, and `pixels` random pixels of each against the probe.
 pub fn verify(dir: &Path, pixels: u64, seed: u64, quiet: bool) -> Result<Verified, Stop> {
     let folder = Folder::read(dir)?;
+    let points = Points::of(&folder.plate);
     let progress = Progress::new("layers", folder.records.len() as u64, quiet);
     let faults: Vec<String> = folder
         .records
         .par_iter()
         .filter_map(|(layer, record)| {
-            let wrong = of_layer(&folder, dir, *layer, record, pixels, seed).err();
+            let wrong = of_layer(&folder, &points, dir, (*layer, record), pixels, seed).err();
             progress.step();
             wrong
         })
@@ -107,7 +108,32 @@ pub fn verify(dir: &Path, pixels: u64, seed: u64, quiet: bool) -> Result<Verifie
     Ok(Verified { layers, pixels: pixels * layers as u64, faults })
 }
 
-fn of_layer(folder: &Folder, dir: &Path, layer: u32, record: &Record, pixels: u64, seed: u64) -> Result<(), String> {
+/// Where the samples are, exactly: by the fractions of the plate, not by the grid that was drawn. Whole units below 2^31
+/// are exact as floats.
+struct Points {
+    x: Vec<f64>,
+    y: Vec<f64>,
+}
+
+impl Points {
+    fn of(plate: &Plate) -> Points {
+        let all = |samples: Samples| (0..samples.axis.count).map(|index| in_mm(samples.units(index))).collect();
+        Points { x: all(plate.x), y: all(plate.y) }
+    }
+}
+
+fn in_mm(units: i128) -> f64 {
+    units as f64 / 65_536.0
+}
+
+fn of_layer(
+    folder: &Folder,
+    points: &Points,
+    dir: &Path,
+    (layer, record): (u32, &Record),
+    pixels: u64,
+    seed: u64,
+) -> Result<(), String> {
     let name = folder.heading.file_name(layer);
     let mask = folder.mask(dir, layer, record)?;
     if mask.filled() != record.pixels {
@@ -120,7 +146,7 @@ fn of_layer(folder: &Folder, dir: &Path, layer: u32, record: &Record, pixels: u6
     let mut random = Random::new(seed ^ (u64::from(layer) << 32));
     for number in 0..pixels {
         let (column, row) = picked(&mask, &mut random, number % 2 == 1);
-        let expected = probed(folder, column, row, z).map_err(|refusal| format!("{name}: {refusal}"))?;
+        let expected = probed(folder, points, (column, row), z).map_err(|refusal| format!("{name}: {refusal}"))?;
         let found = mask.level(column, row);
         if found != expected {
             return Err(format!("{name}: pixel {column}, {row} is {found} of 255, and by the probe {expected}"));
@@ -139,16 +165,15 @@ fn picked(mask: &Mask, random: &mut Random, edge: bool) -> (u32, u32) {
 }
 
 /// A pixel's level by the probe, asked at the exact point of each of its samples.
-fn probed(folder: &Folder, column: u32, row: u32, z: i128) -> Result<u8, layers::Refusal> {
+fn probed(folder: &Folder, points: &Points, pixel: (u32, u32), z: i128) -> Result<u8, layers::Refusal> {
     let Folder { plate, heading, tape, .. } = folder;
-    let row = if heading.up { plate.height - 1 - row } else { row };
+    let row = if heading.up { plate.height - 1 - pixel.1 } else { pixel.1 };
+    let of_pixel = |points: &[f64], index: u32| points[(index * plate.aa) as usize..][..plate.aa as usize].to_vec();
     let mut count = 0;
-    for sample in 0..plate.aa * plate.aa {
-        let x = plate.x.units(column * plate.aa + sample % plate.aa);
-        let y = plate.y.units(row * plate.aa + sample / plate.aa);
-        // units are whole and below 2^31, so these floats are exact
-        let [x, y, z] = [x, y, z].map(|units| units as f64 / 65_536.0);
-        count += u32::from(matches!(tape.probe(x, y, z)?, Probe::Inside(_)));
+    for x in of_pixel(&points.x, pixel.0) {
+        for y in of_pixel(&points.y, row) {
+            count += u32::from(matches!(tape.probe(x, y, in_mm(z))?, Probe::Inside(_)));
+        }
     }
     Ok(level(count, plate.aa * plate.aa))
 }

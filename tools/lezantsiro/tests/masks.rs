@@ -286,6 +286,9 @@ fn results_are_told_as_json() {
     assert_eq!(whole(&value("verify m --json --seed 5"), "seed"), Some(5));
     let probe = value("probe ring.txt 6 -1 0 --json");
     assert_eq!(probe.get("side").unwrap().text(), Some("inside"));
+    assert_eq!(folder.well("probe --formula x/3 1 0 0").out, "outside, 0.3333282470703125\n");
+    let clamped = value("check --formula x*x --size 800x8 --pitch 1 --json");
+    assert!(clamped.get("clamped").unwrap().text().unwrap().contains("x*x at byte 0"));
     let check = value(&format!("check ring.txt {plate} --layer-height 1 --z-to 60 --json"));
     assert_eq!((whole(&check, "clauses"), whole(&check, "layers")), (Some(28), Some(60)));
     assert!(check.get("empty").unwrap().list().unwrap().len() > 20);
