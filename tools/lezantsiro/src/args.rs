@@ -9,18 +9,18 @@ use files::mask::{Format, Material};
 use std::path::PathBuf;
 
 const AFTER: &str = "\
-Every pixel comes from a call of the proved core. This program places blocks of 512 by 512 pixels, scales axes so that \
-a pitch is exact, and writes files; it is tested, not proved.
+Every pixel comes from a call of the proved core. This program places blocks of 512 by 512
+pixels, scales axes so that a pitch is exact, and writes files; it is tested, not proved.
 
-A PART is a formula as text (NAME.txt, or --formula), a .part with its grid, or a tape. What the flags leave out is \
-taken from the part's own grid. Lengths are in mm: 0.05, 0.05mm, 1/20, 50um.
+A PART is a formula as text (NAME.txt, or --formula), a .part with its grid, or a tape. What the
+flags leave out is taken from the part's own grid. Lengths are in mm: 0.05, 0.05mm, 1/20, 50um.
 
-Exit status: 0 done; 1 refused, with number, place and words; 2 wrong use; 3 values clamp, or a check failed; 4 cannot \
-write; 130 or 143 by a signal.";
+Exit status: 0 done; 1 refused, with number, place and words; 2 wrong use; 3 values clamp, or a
+check failed; 4 cannot write; 130 or 143 by a signal.";
 
 /// From a formula to a printer's masks.
 #[derive(Parser, Debug)]
-#[command(name = "lezantsiro", version, about, after_help = AFTER, max_term_width = 100)]
+#[command(name = "lezantsiro", version, about, after_help = AFTER)]
 pub struct Cli {
     #[command(subcommand)]
     pub command: Command,
