@@ -63,10 +63,12 @@ impl Scratch {
         let top = Path::new(env!("CARGO_TARGET_TMPDIR")).join("draw").join(test);
         let _ = fs::remove_dir_all(&top);
         let scratch = Scratch(top);
-        for folder in ["repo/target/bin", "repo/target/cargo/release", "bin", "room"] {
+        for folder in ["repo/target/bin", "repo/target/cargo/release", "repo/tools", "bin", "room"] {
             fs::create_dir_all(scratch.at(folder)).unwrap();
         }
-        fs::copy(in_repository("README.md"), scratch.at("repo/README.md")).unwrap();
+        for file in ["README.md", "tools/proving.sh"] {
+            fs::copy(in_repository(file), scratch.at("repo").join(file)).unwrap();
+        }
         fs::write(scratch.at("repo/crates.txt"), CRATES).unwrap();
         let draw = fs::read_to_string(in_repository("draw")).unwrap();
         scratch.script("repo/draw", draw.strip_prefix("#!/bin/sh\n").expect("a script"));

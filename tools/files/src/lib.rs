@@ -1,0 +1,11 @@
+//! The files that the tool writes and reads again: masks, manifests, archives. Nothing here knows a tape or a grid.
+
+pub mod json;
+pub mod mask;
+pub mod sha256;
+pub mod sl1;
+pub mod whole;
+pub mod zip;
+
+#[cfg(test)]
+mod tests;
