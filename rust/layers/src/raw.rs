@@ -175,14 +175,7 @@ pub fn unpack_tape(tape: &[u8], out: &mut [i32]) -> Listed {
 /// sample. The place is the clause in whichever tape failed.
 pub fn merge_tapes(first: &[u8], second: &[u8], out: &mut [u8]) -> Answer {
     unsafe {
-        layers_merge_tapes(
-            first.as_ptr(),
-            first.len(),
-            second.as_ptr(),
-            second.len(),
-            out.as_mut_ptr(),
-            out.len(),
-        )
+        layers_merge_tapes(first.as_ptr(), first.len(), second.as_ptr(), second.len(), out.as_mut_ptr(), out.len())
     }
 }
 

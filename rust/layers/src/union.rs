@@ -91,8 +91,8 @@ impl Tape {
     /// assert_eq!(row.probe(11.0, 0.0, 0.0)?, Probe::Inside(-2.0));
     /// assert_eq!(row.probe(5.0, 0.0, 0.0)?, Probe::Outside(2.0));
     ///
-    /// let error = Tape::union_all(&vec![row; 10]).unwrap_err();
-    /// assert_eq!((error.clauses(), error.slots()), (479, 150));
+    /// let error = Tape::union_all(&vec![row; 13]).unwrap_err();
+    /// assert_eq!((error.clauses(), error.slots()), (688, 130));
     /// # Ok::<(), Box<dyn std::error::Error>>(())
     /// ```
     pub fn union_all(tapes: &[Tape]) -> Result<Tape, UnionError> {

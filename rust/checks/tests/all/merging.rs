@@ -99,8 +99,9 @@ fn widen(tape: &mut [u8]) {
 fn refusals() {
     let mut r = Random::seeded("merging: refusals", 0x5EED_0053);
     let lengths = || -> Vec<Wrong<Merging>> {
+        // two tapes of five clauses take 118 bytes; what is put last counts, so that no two undo each other
         let puts: [fn(&mut Merging); 5] =
-            [|m| m.out += 1, |m| m.out -= 1, |m| m.out -= 10, |m| m.out += 10, |m| m.out = 0];
+            [|m| m.out = 117, |m| m.out = 119, |m| m.out = 108, |m| m.out = 128, |m| m.out = 0];
         puts.map(|put| wrong(14, put)).into()
     };
     let with = |tape: Vec<Wrong<Merging>>, large: fn(&mut Merging)| -> Vec<Wrong<Merging>> {
