@@ -6,18 +6,19 @@ use Prim.Native.Nat.{ℕ, _≤_, _<_}
 use lib.IntN.{ℤ}
 use lib.ListN.{length, drop}
 use Rattle.rules.specs.Values.{Box}
-use Rattle.rules.specs.Drawings.{sampleAt}
+use Rattle.rules.specs.Drawings.{sampleAt, gridFault}
 use Rattle.rules.specs.Accepted.{Accepted}
 use Rattle.rules.specs.Slopes.{slopesAt, slopesOf}
 use Rattle.code.specs.Words.{tapeIn}
 use Rattle.code.specs.Runs.{BoxOk}
-use Rattle.shortening.specs.Kept.{Kept}
+use Rattle.shortening.specs.Kept.{Kept, MarksAt}
 use Rattle.picture.specs.Shapes.{gridIn}
 use Rattle.picture.specs.declared.grid.Grid.{Grid}
 use Rattle.walk.specs.Cells.{spanOf}
+use Rattle.walk.specs.Walks.{Level}
 use Rattle.slope_pixels.specs.declared.block.Block.{Block}
 use Rattle.slope_pixels.specs.declared.block.Layers.{Layers}
-use Rattle.slope_pixels.specs.Shades.{Within}
+use Rattle.slope_pixels.specs.Shades.{BlockIn, Within}
 
 -- Layers of the grid, and the box of a block's samples in them.
 pub record LayersIn (grid : Grid) (l : Layers) : Type 0 where
@@ -35,6 +36,20 @@ boxAt grid c l =
 pub record BlockBox (grid : Grid) (c : Block) (l : Layers) (b : Box) : Type 0 where
   pub same : b ≡ boxAt grid c l
   pub ok : BoxOk b
+
+-- A block of the grid and layers of it.
+pub record ForBounds (grid : Grid) (c : Block) (l : Layers) : Type 0 where
+  pub fault : gridFault true (gridIn grid true) ≡ 0
+  pub block : BlockIn grid c
+  pub layers : LayersIn grid l
+
+-- And words of a level with room for the short tape's marks and words.
+pub record ForNarrow (whole ws : List ℕ) (grid : Grid) (c : Block) (l : Layers) (work : List ℕ) (base : ℕ)
+    (next : List ℕ) : Type 0 where
+  pub level : Level whole ws
+  pub bounds : ForBounds grid c l
+  pub marks : MarksAt whole base work
+  pub words : length whole ≤ length next
 
 -- From start on stand words with the slopes of the words ws at every sample of the block c in the layers l; kept of the
 -- whole tape, as those are, and accepted as they are.

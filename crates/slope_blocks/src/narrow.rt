@@ -5,22 +5,11 @@ use slope_pixels::block::Block;
 use slope_pixels::block::Layers;
 use walk::cell::span;
 use walk::judge::cut_over;
-ghost use mathlib.Core.Path.{_≡_};
-ghost use mathlib.Core.Bool.{true};
-ghost use Prim.Native.Nat.{_+_, _≤_};
-ghost use lib.ListN.{length};
-ghost use Rattle.rules.specs.Drawings.{gridFault};
 ghost use Rattle.fixed.specs.Shapes.{boxIn};
-ghost use Rattle.shortening.specs.Kept.{markRoom};
-ghost use Rattle.picture.specs.Shapes.{gridIn};
-ghost use Rattle.walk.specs.Walks.{Level};
-ghost use Rattle.slope_pixels.specs.Shades.{BlockIn};
-ghost use Rattle.slope_blocks.specs.Narrow.{LayersIn, BlockBox, Narrowed};
+ghost use Rattle.slope_blocks.specs.Narrow.{ForBounds, ForNarrow, BlockBox, Narrowed};
 
 fn bounds(grid: Grid, block: Block, layers: Layers) -> Bounds
-    requires { ⌜ gridFault true (gridIn grid true) ≡ 0 ⌝ }
-    requires { ⌜ BlockIn grid block ⌝ }
-    requires { ⌜ LayersIn grid layers ⌝ }
+    requires { ⌜ ForBounds grid block layers ⌝ }
     ensures { λ r. ⌜ BlockBox grid block layers (boxIn r) ⌝ }
 {
     Bounds {
@@ -41,12 +30,7 @@ pub fn narrow(
     base: usize,
     next: &mut [u64],
 ) -> usize
-    requires { ⌜ Level (now whole) (now code) ⌝ }
-    requires { ⌜ gridFault true (gridIn grid true) ≡ 0 ⌝ }
-    requires { ⌜ BlockIn grid block ⌝ }
-    requires { ⌜ LayersIn grid layers ⌝ }
-    requires { ⌜ (length (now whole) ≤ base) × (base + markRoom (length (now whole)) ≤ length (now work)) ⌝ }
-    requires { ⌜ length (now whole) ≤ length (now next) ⌝ }
+    requires { ⌜ ForNarrow (now whole) (now code) grid block layers (now work) base (now next) ⌝ }
     ensures { λ r. ⌜ Narrowed (now (whole .entry)) (now (code .entry)) grid block layers
         (now (next .exit)) r ⌝ }
 {

@@ -50,22 +50,20 @@ narrow-requires c κs =
     let e = r .before in
     let p = start e .pre in
     let marks = p .marks in
-    let m = r .mark-room .ensures in (
-      p .level,
-      (
-        p .fits .heights .fault,
-        (
-          p .block .in-grid,
-          (
-            record {
-              some = omega (arith, e .if1 .left);
-              in-grid = omega (arith, topped e .seen-in .ensures .end, p .window .in-grid);
-            },
-            ((omega arith, omega arith), p .words),
-          ),
-        ),
-      ),
-    )
+    let m = r .mark-room .ensures in
+    record {
+      level = p .level;
+      bounds = record {
+        fault = p .fits .heights .fault;
+        block = p .block .in-grid;
+        layers = record {
+          some = omega (arith, e .if1 .left);
+          in-grid = omega (arith, topped e .seen-in .ensures .end, p .window .in-grid);
+        };
+      };
+      marks = record { behind = omega arith; within = omega arith };
+      words = p .words;
+    }
 
 mul-short : tie.Need-mul-short
 mul-short c =

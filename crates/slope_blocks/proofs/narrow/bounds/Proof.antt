@@ -19,21 +19,21 @@ span-requires : tie.Need-span-requires
 span-requires c κs =
     let f = told (c .before) in
     let p = c .before .before .pre in
-    span-words (f .xorigin) (f .xstep) (block-x _ _ _ (p .0) (p .1 .0) (p .1 .1))
+    span-words (f .xorigin) (f .xstep) (block-x _ _ _ (p .fault) (p .block) (p .layers))
 
 span-requires-2 : tie.Need-span-requires-2
 span-requires-2 c κs =
     let t = with-x (c .before .before) in
     let f = told t in
     let p = t .before .pre in
-    span-words (f .yorigin) (f .ystep) (block-y _ _ _ (p .0) (p .1 .0) (p .1 .1))
+    span-words (f .yorigin) (f .ystep) (block-y _ _ _ (p .fault) (p .block) (p .layers))
 
 span-requires-3 : tie.Need-span-requires-3
 span-requires-3 c κs =
     let t = with-x (with-y (c .before .before)) in
     let f = told t in
     let p = t .before .pre in
-    span-words (f .zorigin) (f .zstep) (block-z _ _ _ (p .0) (p .1 .0) (p .1 .1))
+    span-words (f .zorigin) (f .zstep) (block-z _ _ _ (p .fault) (p .block) (p .layers))
 
 returns : tie.Need-returns
 returns c =
@@ -42,7 +42,7 @@ returns c =
     let t = with-x after-x in
     let f = told t in
     let p = t .before .pre in
-    block-box _ _ _ (p .0) (p .1 .0) (p .1 .1)
+    block-box _ _ _ (p .fault) (p .block) (p .layers)
     (span-read (f .xorigin) (f .xstep) _ _ (after-x .span .ensures))
     (span-read (f .yorigin) (f .ystep) _ _ (after-y .span2 .ensures))
     (span-read (f .zorigin) (f .zstep) _ _ (c .span3 .ensures))

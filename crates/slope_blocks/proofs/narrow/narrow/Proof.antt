@@ -21,13 +21,7 @@ cut-over-requires : tie.Need-cut-over-requires
 cut-over-requires c κs =
     let b = with-box c in
     let p = begun (b .before) .pre in
-    let r = p .1 .1 .1 .1 in
-    record {
-      level = p .0;
-      box = b .bounds .ensures .ok;
-      marks = record { behind = r .0 .0; within = r .0 .1 };
-      words = r .1;
-    }
+    record { level = p .level; box = b .bounds .ensures .ok; marks = p .marks; words = p .words }
 
 same-length : tie.Need-same-length
 same-length c = search needs
@@ -40,7 +34,8 @@ returns c =
     let k = after-cut c in
     let b = with-box (k .before) in
     let p = begun (b .before) .pre in
-    narrowed _ _ _ (p .1 .0) (p .1 .1 .0) (p .1 .1 .1 .0) (p .0) (b .bounds .ensures) (k .cut-over .ensures)
+    let q = p .bounds in
+    narrowed _ _ _ (q .fault) (q .block) (q .layers) (p .level) (b .bounds .ensures) (k .cut-over .ensures)
 
 pub narrow-spec : {M : Type 1} → statement M
 narrow-spec =

@@ -27,13 +27,13 @@ narrow-requires : tie.Need-narrow-requires
 narrow-requires c κs =
     let p = begun (c .before .before) .pre in
     let l = p .sixteen .lent in
-    let m = l .marks in (
-      l .level,
-      (
-        l .fits .heights .fault,
-        (p .sixteen .block .in-grid, (p .window, ((omega arith, omega arith), l .words-first))),
-      ),
-    )
+    let m = l .marks in
+    record {
+      level = l .level;
+      bounds = record { fault = l .fits .heights .fault; block = p .sixteen .block .in-grid; layers = p .window };
+      marks = record { behind = omega arith; within = omega arith };
+      words = l .words-first;
+    }
 
 mul-short : tie.Need-mul-short
 mul-short c =
