@@ -152,6 +152,15 @@ fn a_folder_that_cannot_be_is_told() {
     }
 }
 
+/// The command with both signals as they are by default: a process that was started in the background ignores INT, and
+/// so do the tests that it runs and what they start.
+fn by_default(command: &Command) -> Command {
+    let mut env = Command::new("env");
+    env.arg("--default-signal=INT,TERM").arg(command.get_program()).args(command.get_args());
+    command.get_current_dir().map(|folder| env.current_dir(folder));
+    env
+}
+
 #[test]
 fn a_signal_ends_the_run_as_a_signal() {
     let folder = Folder::new();
@@ -159,7 +168,7 @@ fn a_signal_ends_the_run_as_a_signal() {
     for (signal, number) in [("INT", 2), ("TERM", 15)] {
         // a shell tells 128 and the number: 130 and 143
         let words = FLAGS.replace("1100x900", "7000x7000").replace("0.0225", "0.003");
-        let mut child = folder.command(&format!("{words} --out out")).spawn().unwrap();
+        let mut child = by_default(&folder.command(&format!("{words} --out out"))).spawn().unwrap();
         std::thread::sleep(Duration::from_millis(150));
         let sent = Command::new("kill").args([&format!("-{signal}"), &child.id().to_string()]).status().unwrap();
         assert!(sent.success());
