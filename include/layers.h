@@ -109,8 +109,10 @@ LayersListed layers_unpack_tape(const uint8_t *tape, size_t tape_len, int32_t *o
 
 /*
  * Two tapes into one of 8 + 10 bytes for each clause of both and for one more, a minimum: the smaller of the two values
- * at every sample. The place is the clause in whichever tape failed, the first being checked first. A tape may be lent
- * as both.
+ * at every sample. The first's clauses, the second's with the slots that they use raised by the first's slot count, then
+ * the minimum of both results, the first's at left, into the first's result slot; of edition 01 or 02 by its counts, as
+ * above. The place is the clause in whichever tape failed, the first being checked first; 21 comes before 14. A tape may
+ * be lent as both.
  */
 LayersAnswer layers_merge_tapes(const uint8_t *first, size_t first_len, const uint8_t *second, size_t second_len,
                                 uint8_t *out, size_t out_len);

@@ -1,5 +1,5 @@
--- The lines of the calls that draw nothing, in their order. Those of drawings stand in answers, that of a probe's point in
--- rules.
+-- The lines of packing, texts and files, in their order. Those of drawings stand in answers, those of merging in
+-- merge_rules, that of a probe's point in rules.
 use mathlib.Core.Bool.{not}
 use mathlib.Core.List.{List, [], _∷_, _++_}
 use Prim.Native.Nat.{ℕ}

@@ -120,6 +120,14 @@ fn packing_and_files() {
     assert_eq!(written, [0, 0]);
 }
 
+/// Merging goes from bytes to bytes: the largest tape that two can give.
+#[test]
+fn merging() {
+    let (first, second) = (mixed(64, 1024).tape(), mixed(64, 5119).tape());
+    let merge = move || layers::raw::merge_tapes(&first, &second, &mut vec![0; 8 + 10 * 6144]).number;
+    assert_eq!(on(ONE_ARRAY, merge), 0);
+}
+
 /// The reader has a list of 1,024 clauses, and calls itself for every bracket that is open.
 #[test]
 fn texts() {
