@@ -6,8 +6,8 @@ use std::error::Error;
 use std::fmt;
 
 /// Makes [`Refusal`] and all that is known of each line from one row a line: the number, the name (with `{ clause }`
-/// where the place counts), what the README's table says, and the message, before which `clause N` is put where there
-/// is one.
+/// where the place counts), what the table in docs/FORMATS.md says, and the message, before which `clause N` is put
+/// where there is one.
 macro_rules! refusals {
     (
         $(#[$about:meta])*
@@ -65,7 +65,7 @@ macro_rules! refusals {
             }
         }
 
-        /// The table, as the README has it.
+        /// The table, as docs/FORMATS.md has it.
         #[cfg(test)]
         const LINES: &[(u8, &str)] = &[$(($number, $line)),*];
     };
@@ -181,9 +181,9 @@ mod tests {
     }
 
     #[test]
-    fn the_readme_has_the_table() {
-        let readme = include_str!("../../../README.md");
-        let table = readme.split("\n## Refusals\n").nth(1).expect("a section").split("\n## ").next();
+    fn the_page_of_formats_has_the_table() {
+        let page = include_str!("../../../docs/FORMATS.md");
+        let table = page.split("\n## Refusals\n").nth(1).expect("a section").split("\n## ").next();
         let rows: Vec<&str> = table.into_iter().flat_map(str::lines).filter(|line| line.starts_with("| ")).collect();
         let expected = LINES.iter().map(|(number, line)| format!("| {number} | {line} |"));
         assert_eq!(rows, [String::from("| number | if |")].into_iter().chain(expected).collect::<Vec<_>>());

@@ -63,10 +63,10 @@ impl Scratch {
         let top = Path::new(env!("CARGO_TARGET_TMPDIR")).join("draw").join(test);
         let _ = fs::remove_dir_all(&top);
         let scratch = Scratch(top);
-        for folder in ["repo/target/bin", "repo/target/cargo/release", "repo/tools", "bin", "room"] {
+        for folder in ["repo/target/bin", "repo/target/cargo/release", "repo/tools", "repo/docs", "bin", "room"] {
             fs::create_dir_all(scratch.at(folder)).unwrap();
         }
-        for file in ["README.md", "tools/proving.sh"] {
+        for file in ["docs/FORMATS.md", "tools/proving.sh"] {
             fs::copy(in_repository(file), scratch.at("repo").join(file)).unwrap();
         }
         fs::write(scratch.at("repo/crates.txt"), CRATES).unwrap();
