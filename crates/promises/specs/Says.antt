@@ -7,7 +7,7 @@ use Prim.Native.Nat.{ℕ, _*_}
 use lib.Dec.{eqb}
 use lib.ListN.{length, replicate}
 use Rattle.rules.specs.Values.{pick}
-use Rattle.rules.specs.Tapes.{readTape, readList, tapeBytes, listOf, allBytes}
+use Rattle.rules.specs.Tapes.{readTape, readList, tapeBytes, listOf, allBytes, allIn32}
 use Rattle.rules.specs.Drawings as D
 use Rattle.rules.specs.Pictures.{stride, picture, bitmapFile, heightFile}
 use Rattle.rules.specs.Slopes.{slopesOf}
@@ -26,9 +26,12 @@ use Rattle.promises.specs.declared.Sided.{Sided}
 use Rattle.promises.specs.Faults.{copyFault, fileFault, textFault, answerBytes, inFront}
 use Rattle.promises.specs.Sides.{pointIn, probeOf, sideNumber, sideValue}
 
+-- What is lent to packing are numbers of 32 bits, as its type says; a done packing has read each of them: so unpacking
+-- what it wrote gives them again.
 pub record PackSays (n : ℕ) (zs : List ℤ) (o o′ : List ℕ) (r : Answer) : Type 0 where
   pub answer : let g = readList n zs in Answered (copyFault g (tapeBytes (g .tape)) o) (g .place) 0 r
   pub out : let b = tapeBytes (readList n zs .tape) in o′ ≡ written (copyFault (readList n zs) b o) b o
+  pub lent : r .number ≡ 0 → allIn32 zs ≡ true
 
 -- What is lent to unpacking are bytes, as its type says: so packing what it gave gives them again.
 pub record UnpackSays (s : List ℕ) (o o′ : List ℤ) (r : Listed) : Type 0 where
