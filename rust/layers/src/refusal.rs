@@ -6,7 +6,7 @@ use std::error::Error;
 use std::fmt;
 
 /// Makes [`Refusal`] and all that is known of each line from one row a line: the number, the name (with `{ clause }`
-/// where the place counts), what the README's table says, and the message, before which `clause N` is put where there
+/// where the place counts), what the table of the formats says, and the message, before which `clause N` is put where there
 /// is one.
 macro_rules! refusals {
     (
@@ -65,7 +65,7 @@ macro_rules! refusals {
             }
         }
 
-        /// The table, as the README has it.
+        /// The table, as the page of the formats has it.
         #[cfg(test)]
         const LINES: &[(u8, &str)] = &[$(($number, $line)),*];
     };
