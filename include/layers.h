@@ -150,7 +150,11 @@ LayersAnswer layers_write_bitmap(uint32_t width, uint32_t height, const uint8_t 
 LayersAnswer layers_write_heights(uint32_t width, uint32_t height, const uint16_t *picture, size_t picture_len, uint8_t *out,
                                   size_t out_len);
 
-/* The formula at a point, each coordinate rounded down to a unit of 1/65,536; the value is exact. */
+/*
+ * The formula at a point, each coordinate rounded down to a unit of 1/65,536; the value is exact. The floating-point
+ * state is as the ABI has it at a program's start: where flush-to-zero or denormals-are-zero is set, as by gcc -Ofast,
+ * -1e-310 is not rounded down but taken for 0.
+ */
 LayersProbed layers_probe(const uint8_t *tape, size_t tape_len, LayersPoint point);
 
 #ifdef __cplusplus
