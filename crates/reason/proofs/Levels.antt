@@ -1,17 +1,17 @@
 -- A level of the way to a pixel: it stops at the region, or goes down with the short words.
 use mathlib.Core.Path.{_≡_, sym, ap, subst, _∙_}
-use mathlib.Core.Bool.{true, false, _&&_, not, and-false}
+use mathlib.Core.Bool.{true, false, and-false}
 use mathlib.Core.List.{List, [], _∷_}
 use lib.IntN.{ℤ}
 use Prim.Native.Nat.{ℕ, _-_}
 use lib.ListN.{length, take, drop}
 use Rattle.rules.specs.Values.{isNeg, Sample, Range, range, Box}
-use Rattle.rules.specs.Tapes.{Tape, rangeOver, valueAt}
+use Rattle.rules.specs.Tapes.{rangeOver, valueAt}
 use Rattle.rules.specs.Drawings.{boxOf, sampleAt}
 use Rattle.rules.specs.Accepted.{Accepted}
-use Rattle.reason_rules.specs.Reasons.{Reason, holding, mixed, reasonFrom}
+use Rattle.reason_rules.specs.Reasons.{holding, mixed, reasonFrom}
 use Rattle.fixed.specs.Shapes.{rangeIn}
-use Rattle.code.specs.Words.{tapeIn}
+use Rattle.code.specs.Words.{clausesIn, tapeIn}
 use Rattle.code.specs.Runs.{Evaluated}
 use Rattle.code.proofs.WordTapes.{length-clauses}
 use Rattle.picture.specs.Shapes.{gridIn}
@@ -39,7 +39,7 @@ is-mixed : (x : Range) → IsMixed x → mixed x ≡ true
 is-mixed x f = rw (f .high, f .low)
 
 same-stop : (n : ℕ) (ws : List ℕ) {x y : Range} → x ≡ y
-    → stopOf n x (length ws) ≡ stopOf n y (length (tapeIn 0 ws .clauses))
+    → stopOf n x (length ws) ≡ stopOf n y (length (clausesIn ws))
 same-stop n ws {x} {y} e =
     ap (λ q. stopOf n q (length ws)) e ∙ ap (stopOf n y) (sym (length-clauses ws))
 

@@ -1,7 +1,7 @@
 -- A pixel of the grid: the region that holds it, and its sample.
-use mathlib.Core.Path.{_≡_, refl, subst, sym}
+use mathlib.Core.Path.{_≡_}
 use mathlib.Core.Bool.{false}
-use Prim.Native.Nat.{ℕ, _*_, _/_, _≤_, _<_}
+use Prim.Native.Nat.{ℕ, _*_, _/_, _≤_}
 use native.Mathlib.Nat.{div-mul-le-self}
 use native.Mathlib.Omega.{arith}
 use lib.IntN.{ℤ}
@@ -19,12 +19,12 @@ module _ {grid : Grid} {i j : ℕ} (p : Pixel grid i j) where
   taken : Accepted grid false
   taken = accepted grid false (p .fault)
 
-  -- Where the part of an axis begins that holds an index, and the cell from there on.
-  pub before-column : (n : ℕ) → i / n * n ≤ sizeLimit
-  before-column n = omega (arith, div-mul-le-self i n, p .column, taken .sizes .width .most)
-
-  pub before-row : (n : ℕ) → j / n * n ≤ sizeLimit
-  before-row n = omega (arith, div-mul-le-self j n, p .row, taken .sizes .height .most)
+  -- Where the parts of side n begin that hold the pixel's column and row, and the cell from there on.
+  pub corner : (n : ℕ) → (i / n * n ≤ sizeLimit) × (j / n * n ≤ sizeLimit)
+  corner n = (
+    omega (arith, div-mul-le-self i n, p .column, taken .sizes .width .most),
+    omega (arith, div-mul-le-self j n, p .row, taken .sizes .height .most),
+  )
 
   pub cell-there : (n : ℕ) → 1 ≤ n → n ≤ sizeLimit → ForCell 1 grid (i / n * n) (j / n * n) 0 n
   cell-there n h k =

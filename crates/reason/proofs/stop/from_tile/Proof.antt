@@ -3,15 +3,18 @@ use mathlib.Core.List.{[], _∷_}
 use native.Mathlib.Omega.{arith}
 use Prim.Native.Nat.{_≤_}
 use lib.ListN.{length}
-use Rattle.walk.proofs.LookLaws.{sound-length}
+use Rattle.shortening.proofs.KeptLaws.{words-fewer}
 use Rattle.reason.proofs.Levels.{stop-full, stop-empty, is-cut, short-level, goes-down}
 use borrow.Author.Needs.{needs}
 use Rattle.reason.proofs.stop.from_tile.Statement.{statement}
 use Rattle.reason.proofs.stop.from_tile.Tie as tie
 
 -- The places: the start, from the judge; the judge, from the arms; in the arm of a cut, before and after side 8.
+abbrev begun : tie.After-judge-at-arg2 → tie.Start
+begun c = c .before .before .before .before .before .before
+
 abbrev start : tie.After-judge-at → tie.Start
-start c = c .before .before .before .before .before .before .before
+start c = begun (c .before)
 
 abbrev judged : tie.After-range → tie.After-judge-at
 judged c = c .before .before .before .before .before
@@ -31,19 +34,21 @@ starts : (c : tie.After-known-told)
 starts c = is-cut (in-cut c .judge-at .ensures) (c .before .outcome .given .1) .start
 
 judge-at-requires : tie.Need-judge-at-requires
-judge-at-requires c κs = search needs
+judge-at-requires c κs = (begun c .pre .0, (omega arith, omega arith))
 
 enum-told : tie.Need-enum-told
 enum-told c = search needs
 
 stop-at-requires : tie.Need-stop-at-requires
-stop-at-requires c κs = sound-length (start (judged (c .before .before)) .pre .0 .level .sound)
+stop-at-requires c κs =
+    let k = start (judged (c .before .before)) .pre .0 .level .kept in omega (arith, words-fewer k, k .kept .within)
 
 enum-told-2 : tie.Need-enum-told-2
 enum-told-2 c = search needs
 
 stop-at-requires-2 : tie.Need-stop-at-requires-2
-stop-at-requires-2 c κs = sound-length (start (judged (c .before .before)) .pre .0 .level .sound)
+stop-at-requires-2 c κs =
+    let k = start (judged (c .before .before)) .pre .0 .level .kept in omega (arith, words-fewer k, k .kept .within)
 
 enum-known-outcome : tie.Need-enum-known-outcome
 enum-known-outcome c = search needs

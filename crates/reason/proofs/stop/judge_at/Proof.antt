@@ -1,6 +1,6 @@
 -- The cell that holds the pixel, its box, and the judge over it.
 use native.Mathlib.Omega.{arith}
-use Rattle.reason.proofs.Pixels.{before-column, before-row, cell-there}
+use Rattle.reason.proofs.Pixels.{corner, cell-there}
 use Rattle.reason.proofs.Levels.{judged-at}
 use borrow.Author.Needs.{needs}
 use Rattle.reason.proofs.stop.judge_at.Statement.{statement}
@@ -20,13 +20,13 @@ div-cell-at : tie.Need-div-cell-at
 div-cell-at c = search needs
 
 mul-cell-at : tie.Need-mul-cell-at
-mul-cell-at c = let s = begun c in omega (arith, before-column (s .pre .0 .pixel) (s .args .side))
+mul-cell-at c = let s = begun c in omega (arith, corner (s .pre .0 .pixel) (s .args .side))
 
 div-cell-at-2 : tie.Need-div-cell-at-2
 div-cell-at-2 c = search needs
 
 mul-cell-at-2 : tie.Need-mul-cell-at-2
-mul-cell-at-2 c = let s = begun c in omega (arith, before-row (s .pre .0 .pixel) (s .args .side))
+mul-cell-at-2 c = let s = begun c in omega (arith, corner (s .pre .0 .pixel) (s .args .side))
 
 cell-at-requires : tie.Need-cell-at-requires
 cell-at-requires c κs =
