@@ -6,3 +6,4 @@ pub mod SlopesExample
 pub mod Probes
 pub mod Texts
 pub mod Merging
+pub mod Reasons

@@ -1,6 +1,6 @@
 -- What the public calls promise: number, place, count and every lent byte, for all inputs.
 use mathlib.Core.Path.{_≡_}
-use mathlib.Core.Bool.{Bool, true}
+use mathlib.Core.Bool.{Bool, true, false}
 use mathlib.Core.List.{List}
 use lib.IntN.{ℤ}
 use Prim.Native.Nat.{ℕ, _*_}
@@ -23,8 +23,10 @@ use Rattle.promises.specs.declared.Listed.{Listed}
 use Rattle.promises.specs.declared.Point.{Point}
 use Rattle.promises.specs.declared.Probed.{Probed}
 use Rattle.promises.specs.declared.Sided.{Sided}
-use Rattle.promises.specs.Faults.{copyFault, fileFault, textFault, answerBytes, inFront}
+use Rattle.promises.specs.declared.Reason.{Reason}
+use Rattle.promises.specs.Faults.{copyFault, fileFault, textFault, answerBytes, inFront, reasonFault}
 use Rattle.promises.specs.Sides.{pointIn, probeOf, sideNumber, sideValue}
+use Rattle.promises.specs.Figures.{reasonIn, reasonBy}
 
 -- What is lent to packing are numbers of 32 bits, as its type says; a done packing has read each of them: so unpacking
 -- what it wrote gives them again.
@@ -110,3 +112,12 @@ pub record SlopesSay (s : List ℕ) (d : Grid) (o o′ : List ℕ) (p p′ : Lis
   pub work : let g = gridIn d true in
       let n = slopesFault s g (length o) (length p) (length w) in
       w′ ≡ written n (replicate (length w) 0) w
+
+-- The reason for the pixel in column i and row j of a flat picture: lines 1 to 11, then 23, then 13. "the side of the
+-- region where the walk stopped (64, 8 or 1), both ends of the range there or the value twice, and how many clauses its
+-- tape had". It draws no picture, so its count is 0; the work buffer is cleared.
+pub record ReasonSays (s : List ℕ) (d : Grid) (i j : ℕ) (w w′ : List ℕ) (r : Reason) : Type 0 where
+  pub answer : Answered (reasonFault s (gridIn d false) i j (length w)) (readTape s .place) 0 (r .answer)
+  pub figures : let g = gridIn d false in
+      reasonIn r ≡ reasonBy (reasonFault s g i j (length w)) (readTape s .tape) g i j
+  pub work : w′ ≡ written (reasonFault s (gridIn d false) i j (length w)) (replicate (length w) 0) w
