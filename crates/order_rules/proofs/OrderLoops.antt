@@ -2,7 +2,7 @@
 use mathlib.Core.Path.{_≡_, refl, sym, ap, ap₂, _∙_}
 use mathlib.Core.Bool.{Bool, true, false}
 use mathlib.Core.List.{List, [], _∷_}
-use Prim.Native.Nat.{ℕ, zero, suc, _+_, _*_, _<_, _≤_}
+use Prim.Native.Nat.{ℕ, zero, suc, _+_, _<_, _≤_}
 use native.Mathlib.Omega.{arith}
 use lib.Dec.{eqb, ltb}
 use lib.ListN.{length, getD, set, take, replicate, getD-replicate}
@@ -10,12 +10,11 @@ use lib.Seq.{take-length, getD-set-same, getD-set-other}
 use borrow.Author.Tests.{eqb-true, eqb-false, eq-eqb, lt-ltb}
 use Rattle.rules.specs.Values.{when}
 use Rattle.rules.specs.Tapes.{Tape}
-use Rattle.rules.specs.Drawings.{Grid, solid, Region, State, fold, visit, sides, whole, solidBound}
+use Rattle.rules.specs.Drawings.{Grid, Region, State, fold, visit, sides, whole}
 use Rattle.rules.proofs.Tests.{and-left, and-right}
-use Rattle.rules.proofs.Bound.{part-added}
 use Rattle.order_rules.specs.Orders.{timesIn, allBelow, isOrder, tiles, tileCount, inOrder, cleared, walkedIn}
 use Rattle.order_rules.proofs.OrderTests.{both-true, order, Fresh, fresh-order, order-length, once-at}
-use Rattle.order_rules.proofs.AnyOrder.{order-size, order-take, order-get, below-at, tile-part}
+use Rattle.order_rules.proofs.AnyOrder.{order-size, order-take, order-get, below-at}
 
 -- The first i numbers of the list have passed: each is below n, and none stands among them twice.
 pub record PassedUpTo (n : ℕ) (ks : List ℕ) (i : ℕ) : Type 0 where
@@ -154,20 +153,3 @@ walk-goes-on ks t g i h =
 
 pub walk-ends : (ks : List ℕ) (t : Tape) (g : Grid) → walkedIn (take (length ks) ks) t g ≡ walkedIn ks t g
 walk-ends ks t g = ap (λ v. walkedIn v t g) (take-length ks)
-
--- The count so far, so that no sum leaves 64 bits: at most i tiles' bounds.
-pub count-most : (ks : List ℕ) (t : Tape) (g : Grid) → solid g ≡ true → isOrder (tileCount g) ks ≡ true → (i : ℕ)
-    → i ≤ length ks → walkedIn (take i ks) t g .clauses ≤ i * (solidBound * length (t .clauses))
-count-most ks t g e o zero h = rw (walk-starts ks t g) (omega arith)
-count-most ks t g e o (suc i) h =
-    let k = getD ks i 0 in
-    let s = walkedIn (take i ks) t g in
-    let q = getD (tiles g) k whole in
-    let l = below-at (tileCount g) ks (order (tileCount g) ks o .below) i (omega arith) in
-    rw (walk-goes-on ks t g i (omega arith))
-    (omega (
-      arith,
-      part-added t g q s,
-      tile-part t g e k l s,
-      count-most ks t g e o i (omega arith),
-    ))
