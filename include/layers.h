@@ -31,7 +31,7 @@
  *    9 a slot read that no earlier clause wrote
  *   10 a size not 1 to 512
  *   11 a step below 1, or an origin, z or last sample outside -2,147,483,647 to 2,147,483,647
- *   12 picture or slope buffer not of the exact length
+ *   12 picture or slope buffer not of the exact length; order list not of every tile one time
  *   13 work buffer below 32,768 bytes
  *   14 packing, unpacking, merging, text or file: output not of the exact length
  *   17 text: the rules of a formula broken
@@ -150,6 +150,15 @@ LayersAnswer layers_tile_flat(const uint8_t *tape, size_t tape_len, LayersGrid g
                               uint8_t *work, size_t work_len);
 LayersAnswer layers_tile_solid(const uint8_t *tape, size_t tape_len, LayersGrid grid, uint16_t *picture, size_t picture_len,
                                uint8_t *work, size_t work_len);
+
+/*
+ * The picture of layers_tile_solid with its 64-tiles drawn in an order of the caller's own, which changes no height: order
+ * has each tile's number one time. The tiles are numbered from 0, those with the greatest z first, in each layer of tiles
+ * row by row. The count is that of the walk in this order.
+ */
+LayersAnswer layers_tile_solid_in_order(const uint8_t *tape, size_t tape_len, LayersGrid grid, const uint16_t *order,
+                                        size_t order_len, uint16_t *picture, size_t picture_len, uint8_t *work,
+                                        size_t work_len);
 
 /*
  * The picture and the count of layers_tile_solid, and three slopes a pixel, x, y and z of one and then of the next: how

@@ -8,7 +8,7 @@ use promises::Reason;
 use promises::Sided;
 ghost use mathlib.Core.Bool.{true, false};
 ghost use Rattle.promises.specs.Says.{PackSays, UnpackSays, FullSays, TilesSay, BitmapSays, HeightsSay};
-ghost use Rattle.promises.specs.Says.{SidedSays, SlopesSay, MergeSays, TextAnswered, ReasonSays};
+ghost use Rattle.promises.specs.Says.{SidedSays, SlopesSay, MergeSays, TextAnswered, ReasonSays, OrderSays};
 
 #[no_mangle]
 pub extern "C" fn layers_pack_tape(slots: u32, list: &[i32], out: &mut [u8]) -> Answer
@@ -69,6 +69,20 @@ pub extern "C" fn layers_tile_solid(
         (now (work .entry)) (now (work .exit)) r ⌝ }
 {
     layers::tile_solid(tape, grid, picture, work)
+}
+
+#[no_mangle]
+pub extern "C" fn layers_tile_solid_in_order(
+    tape: &[u8],
+    grid: Grid,
+    order: &[u16],
+    picture: &mut [u16],
+    work: &mut [u8],
+) -> Answer
+    ensures { λ r. ⌜ OrderSays (now (tape .entry)) grid (now (order .entry)) (now (picture .entry))
+        (now (picture .exit)) (now (work .entry)) (now (work .exit)) r ⌝ }
+{
+    layers::tile_solid_in_order(tape, grid, order, picture, work)
 }
 
 #[no_mangle]

@@ -7,3 +7,4 @@ pub mod Probes
 pub mod Texts
 pub mod Merging
 pub mod Reasons
+pub mod Orders

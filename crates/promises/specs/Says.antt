@@ -14,6 +14,7 @@ use Rattle.rules.specs.Slopes.{slopesOf}
 use Rattle.rules.specs.Probes.{probeFault, probedValue}
 use Rattle.formula_rules.specs.FormulaReader.{reader}
 use Rattle.merge_rules.specs.Merging.{mergedBytes, mergeFault, faultClause}
+use Rattle.order_rules.specs.Orders.{walkedIn, orderFault}
 use Rattle.picture.specs.Shapes.{gridIn}
 use Rattle.picture.specs.declared.grid.Grid.{Grid}
 use Rattle.answers.specs.declared.Answer.{Answer}
@@ -82,6 +83,17 @@ pub record TilesSay (isSolid : Bool) (s : List ℕ) (d : Grid) (o o′ w w′ : 
       let n = tileFault isSolid s g (length o) (length w) in
       o′ ≡ written n (picture isSolid g (D.walked (readTape s .tape) g .heights)) o
   pub work : w′ ≡ written (tileFault isSolid s (gridIn d isSolid) (length o) (length w)) (replicate (length w) 0) w
+
+-- The solid drawing by tiles in the order ks: lines 1 to 11, 12 for the picture and for the list, 13; the walk's picture
+-- and count with its 64-tiles in that order, and the work buffer cleared.
+pub record OrderSays (s : List ℕ) (d : Grid) (ks o o′ w w′ : List ℕ) (r : Answer) : Type 0 where
+  pub answer : let g = gridIn d true in
+      let n = orderFault s g ks (length o) (length w) in
+      Answered n (readTape s .place) (walkedIn ks (readTape s .tape) g .clauses) r
+  pub pixels : let g = gridIn d true in
+      let n = orderFault s g ks (length o) (length w) in
+      o′ ≡ written n (picture true g (walkedIn ks (readTape s .tape) g .heights)) o
+  pub work : w′ ≡ written (orderFault s (gridIn d true) ks (length o) (length w)) (replicate (length w) 0) w
 
 -- The probe: lines 1 to 9, then 20, and the side of the full tape's value at the rounded point. It draws no picture, so
 -- its count is 0, and nothing is lent to be written.
