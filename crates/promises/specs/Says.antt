@@ -1,6 +1,6 @@
 -- What the public calls promise: number, place, count and every lent byte, for all inputs.
 use mathlib.Core.Path.{_≡_}
-use mathlib.Core.Bool.{Bool, true}
+use mathlib.Core.Bool.{Bool, true, false}
 use mathlib.Core.List.{List}
 use lib.IntN.{ℤ}
 use Prim.Native.Nat.{ℕ, _*_}
@@ -14,6 +14,7 @@ use Rattle.rules.specs.Slopes.{slopesOf}
 use Rattle.rules.specs.Probes.{probeFault, probedValue}
 use Rattle.formula_rules.specs.FormulaReader.{reader}
 use Rattle.merge_rules.specs.Merging.{mergedBytes, mergeFault, faultClause}
+use Rattle.swept_rules.specs.Swept.{offsetsOf, swept, sweptFault}
 use Rattle.picture.specs.Shapes.{gridIn}
 use Rattle.picture.specs.declared.grid.Grid.{Grid}
 use Rattle.answers.specs.declared.Answer.{Answer}
@@ -107,3 +108,11 @@ pub record SlopesSay (s : List ℕ) (d : Grid) (o o′ : List ℕ) (p p′ : Lis
   pub work : let g = gridIn d true in
       let n = slopesFault s g (length o) (length p) (length w) in
       w′ ≡ written n (replicate (length w) 0) w
+
+-- The swept picture, zs the path: lines 1 to 11, 25, 12 and 13; "each pixel must equal the full evaluation at all
+-- positions. The returned count is 0." The work buffer is cleared when done.
+pub record SweptSays (s : List ℕ) (d : Grid) (zs : List ℤ) (o o′ w w′ : List ℕ) (r : Answer) : Type 0 where
+  pub answer : Answered (sweptFault s (gridIn d false) zs (length o) (length w)) (readTape s .place) 0 r
+  pub pixels : let g = gridIn d false in
+      o′ ≡ written (sweptFault s g zs (length o) (length w)) (swept (readTape s .tape) (offsetsOf zs) g) o
+  pub work : w′ ≡ written (sweptFault s (gridIn d false) zs (length o) (length w)) (replicate (length w) 0) w
