@@ -1,10 +1,9 @@
 -- The lines of the call in two stages, what none of them refuses has, and the two ends of the call.
 use mathlib.Core.Path.{_≡_, refl, sym, ap, _∙_}
-use mathlib.Core.Bool.{Bool, true, false, not}
+use mathlib.Core.Bool.{true, false, not}
 use mathlib.Core.List.{List, [], _∷_, _++_}
 use lib.IntN.{ℤ}
-use Prim.Native.Nat.{ℕ, zero, suc, _*_, _≤_}
-use native.Mathlib.Omega.{arith}
+use Prim.Native.Nat.{ℕ, zero, suc, _*_}
 use lib.ListN.{length, take, replicate}
 use lib.Dec.{eqb}
 use Rattle.rules.specs.Values.{firstFault, when}
@@ -12,7 +11,7 @@ use Rattle.rules.specs.Tapes.{Tape, readTape, clauseLimit}
 use Rattle.rules.specs.Drawings as D
 use Rattle.rules.specs.Pictures.{pictureSize}
 use Rattle.rules.proofs.Lines.{each-line}
-use Rattle.swept_rules.specs.Swept.{offsetsOf, pathFault, sweptLines, swept, sweptFault}
+use Rattle.swept_rules.specs.Swept.{offsetsOf, pathFault, sweptLines, swept}
 use Rattle.swept_rules.proofs.Calls as Rules
 use Rattle.code.specs.Unpacking.{Unpacked}
 use Rattle.picture.specs.Shapes.{gridIn}

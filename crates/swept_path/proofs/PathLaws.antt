@@ -1,10 +1,10 @@
 -- Positions in machine words, line 25 test by test, boxes and samples moved, and the hull of a list.
-use mathlib.Core.Path.{_≡_, refl, sym, ap, ap₂, _∙_}
+use mathlib.Core.Path.{_≡_, sym, ap, ap₂, _∙_}
 use mathlib.Core.Bool.{Bool, true, false, _&&_, not}
-use mathlib.Core.List.{List, [], _∷_}
+use mathlib.Core.List.{List}
 use lib.IntN.{ℤ, pos, _-ℤ_}
 use lib.Signed.{mag}
-use Prim.Native.Nat.{ℕ, suc, _+_, _-_, _*_, _%_, _^_, _≤_, _<_}
+use Prim.Native.Nat.{ℕ, _+_, _-_, _%_, _^_, _≤_, _<_}
 use native.Mathlib.Omega.{arith}
 use native.Mathlib.Numerals.{add-one}
 use lib.Dec.{eqb, leb}
@@ -23,7 +23,7 @@ use Rattle.picture.specs.Shapes.{gridIn}
 use Rattle.picture.specs.declared.grid.Grid.{Grid}
 use Rattle.picture.proofs.Grids.{accepted}
 use Rattle.swept_rules.specs.Swept.{Offset, offset, offsetsOf, wholePath, pathFault, movedSample}
-use Rattle.swept_rules.specs.Keeping.{endsStay, cornersStay, pathCorners, cornerFault, positionAt, Hull, hullOf, widened}
+use Rattle.swept_rules.specs.Keeping.{endsStay, cornersStay, pathCorners, cornerFault, positionAt, Hull, widened}
 use Rattle.swept_rules.specs.Keeping.{hullBox, hullFrom}
 use Rattle.swept_rules.proofs.Paths.{accepted-sized, same-fault}
 use Rattle.swept_path.specs.declared.path.Offset as declared-offset

@@ -1,6 +1,6 @@
 -- One number at a pixel; a region drawn part by part.
-use mathlib.Core.Path.{_≡_, refl, sym, ap, ap₂, subst, _∙_}
-use mathlib.Core.Bool.{Bool, true, false}
+use mathlib.Core.Path.{_≡_, refl, sym, ap, _∙_}
+use mathlib.Core.Bool.{false}
 use mathlib.Core.List.{List, [], _∷_}
 use mathlib.Core.Logic.{_⊎_, inl, inr}
 use Prim.Native.Nat.{ℕ, suc, _+_, _*_, _≤_, _<_}
@@ -8,9 +8,9 @@ use native.Mathlib.Nat.{mul-comm, mul-le-mul, mul-le-mul-right}
 use native.Mathlib.Numerals.{add-one}
 use native.Mathlib.Omega.{arith}
 use native.Mathlib.Decide.{ℕ-discrete}
-use lib.ListN.{length, getD, set, drop, drop-of-length-le, length-set}
+use lib.ListN.{length, set, drop, drop-of-length-le}
 use lib.Seq.{getD-set-same, getD-set-other}
-use Rattle.rules.specs.Drawings.{Region, Inside, InGrid, layers, children}
+use Rattle.rules.specs.Drawings.{Region, Inside, layers}
 use Rattle.rules.proofs.Heights.{same-pixel}
 use Rattle.rules.proofs.Regions.{Some, here, there, children-cover, lesser-both}
 use Rattle.picture.specs.declared.grid.Grid.{Grid}
@@ -19,7 +19,7 @@ use Rattle.walk.specs.Children.{Parent, childrenIn, ChildOf}
 use Rattle.walk.specs.declared.cell.Cell.{Cell}
 use Rattle.walk.proofs.CellLaws.{small}
 use Rattle.walk.proofs.ChildLaws.{endsGrid, children-of, parent-of, parent-some, parts-fewer}
-use Rattle.swept_pixels.specs.Puts.{Right, Puts, Draws, Constantly, OnGrid}
+use Rattle.swept_pixels.specs.Puts.{Right, Draws, Constantly, OnGrid}
 
 -- The place of a pixel.
 module _ (grid : Grid) (x y : ℕ) (hx : x < grid .width) (hy : y < grid .height) where

@@ -3,12 +3,12 @@ use mathlib.Core.Path.{_≡_, refl, sym, ap, _∙_}
 use mathlib.Core.Bool.{Bool, true, false}
 use mathlib.Core.List.{List}
 use lib.IntN.{ℤ}
-use Prim.Native.Nat.{ℕ, suc, _+_, _≤_, _<_}
+use Prim.Native.Nat.{ℕ, _+_, _≤_, _<_}
 use native.Mathlib.Omega.{arith}
 use native.Mathlib.Numerals.{add-one}
 use lib.ListN.{length, getD, drop, drop-of-length-le}
 use Rattle.rules.specs.Values.{isNeg, Sample}
-use Rattle.rules.specs.Tapes.{valueAt, material}
+use Rattle.rules.specs.Tapes.{material}
 use Rattle.rules.specs.Drawings.{at, sampleAt, Inside, gridFault}
 use Rattle.rules.specs.Accepted.{Accepted}
 use Rattle.code.specs.Words.{tapeIn}
@@ -24,7 +24,7 @@ use Rattle.swept_rules.specs.Keeping.{positionAt, firstIn}
 use Rattle.swept_rules.proofs.Positions.{search-found, search-on}
 use Rattle.swept_rules.proofs.Regions.{part-keeps}
 use Rattle.swept_path.specs.Asked.{ForSample}
-use Rattle.swept_pixels.specs.Puts.{Draws, Constantly}
+use Rattle.swept_pixels.specs.Puts.{Constantly}
 use Rattle.swept_pixels.specs.Searches.{OnPath, Found, Agrees}
 use Rattle.swept_pixels.proofs.PutLaws.{child-inside}
 

@@ -11,15 +11,15 @@ use Rattle.rules.specs.Tapes.{Tape, rangeOver, shortened}
 use Rattle.rules.specs.Drawings.{Grid, sampleAt, Region, boxOf, Inside, InGrid}
 use Rattle.rules.proofs.Runs.{Good}
 use Rattle.rules.proofs.Short.{short-good}
-use Rattle.rules.proofs.Regions.{Begins, Placed, inside-child}
+use Rattle.rules.proofs.Regions.{Begins}
 use Rattle.rules.proofs.Grids.{Sound, box-holds}
 use Rattle.swept_rules.specs.Swept.{Offset, sweptAt}
 use Rattle.swept_rules.specs.Keeping.{Hull, hullOf, widened, hullBox, movedBox, positionAt, numbersFrom}
-use Rattle.swept_rules.specs.Keeping.{hullFrom, firstIn, keptIn}
+use Rattle.swept_rules.specs.Keeping.{firstIn}
 use Rattle.swept_rules.proofs.Paths.{AllStay}
 use Rattle.swept_rules.proofs.Boxes.{Moves, region-moves}
-use Rattle.swept_rules.proofs.Positions.{AllOf, AllMove, all-map, Hulls, hull-one, hull-more, hull-from}
-use Rattle.swept_rules.proofs.Positions.{whole-path, Kept, kept-over, kept-all, kept-first, short-first}
+use Rattle.swept_rules.proofs.Positions.{AllOf, AllMove, all-map, Hulls, hull-one, hull-more}
+use Rattle.swept_rules.proofs.Positions.{whole-path, Kept, kept-all, kept-first, short-first}
 use Rattle.swept_rules.proofs.Positions.{first-covers}
 
 -- A region that begins in the grid.

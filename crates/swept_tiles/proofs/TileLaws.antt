@@ -1,13 +1,12 @@
 -- Tiles: all positions by their numbers, and the whole picture.
-use mathlib.Core.Path.{_≡_, refl, sym, ap, subst, _∙_}
+use mathlib.Core.Path.{_≡_, sym, ap, subst, _∙_}
 use mathlib.Core.Bool.{false}
 use mathlib.Core.List.{List}
 use lib.IntN.{ℤ}
-use Prim.Native.Nat.{ℕ, _+_, _*_, _/_, _≤_, _<_}
+use Prim.Native.Nat.{ℕ, _/_, _≤_, _<_}
 use native.Mathlib.Omega.{arith}
 use lib.ListN.{length, take}
 use Rattle.rules.specs.Drawings.{Region, region, Inside}
-use Rattle.rules.specs.Accepted.{Accepted}
 use Rattle.rules.proofs.Runs.{good-accepted}
 use Rattle.code.specs.Words.{tapeIn}
 use Rattle.picture.specs.Shapes.{gridIn}
@@ -17,12 +16,9 @@ use Rattle.swept_rules.specs.Swept.{offsetsOf}
 use Rattle.swept_rules.specs.Keeping.{numbersFrom}
 use Rattle.swept_rules.proofs.Positions.{numbers-length, numbers-at}
 use Rattle.swept_rules.proofs.Pictures.{pixels-swept}
-use Rattle.swept_rules.proofs.Regions.{sweptBy, tile-keeps, part-keeps}
-use Rattle.walk.specs.Cells.{CellOk, regionIn}
-use Rattle.walk.specs.Children.{ChildOf}
-use Rattle.walk.specs.declared.cell.Cell.{Cell}
+use Rattle.swept_rules.proofs.Regions.{sweptBy, tile-keeps}
 use Rattle.swept_path.specs.Asked.{InPath}
-use Rattle.swept_pixels.specs.Puts.{Draws, OnGrid}
+use Rattle.swept_pixels.specs.Puts.{Draws}
 use Rattle.swept_pixels.specs.Searches.{OnPath, Agrees}
 use Rattle.swept_tiles.specs.Looks.{Numbered, AllAgree, ForSweep, SweptBy}
 

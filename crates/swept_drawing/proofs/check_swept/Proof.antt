@@ -1,7 +1,6 @@
 -- The lines of the grid, and behind them line 25 and the lengths.
-use Prim.Native.Nat.{ℕ}
 use mathlib.Core.Bool.{false, not}
-use mathlib.Core.List.{List, [], _∷_}
+use mathlib.Core.List.{[], _∷_}
 use Prim.Native.Nat.{_*_}
 use lib.Dec.{eqb}
 use Rattle.rules.specs.Values.{when}

@@ -1,5 +1,5 @@
 -- Refused with all as it was, or the swept picture, and the work buffer cleared.
-use mathlib.Core.Path.{_≡_, ap, _∙_}
+use mathlib.Core.Path.{ap, _∙_}
 use lib.ListN.{replicate}
 use Rattle.swept_drawing.proofs.Calls.{swept-refused, swept-asked, swept-done}
 use borrow.Author.Needs.{needs}

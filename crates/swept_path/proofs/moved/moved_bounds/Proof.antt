@@ -1,5 +1,5 @@
 -- Both differences of ranges have values as ends, so nothing is clamped.
-use mathlib.Core.Path.{_≡_, refl, _∙_}
+use mathlib.Core.Path.{refl}
 use Rattle.swept_path.proofs.PathLaws.{box-moved}
 use borrow.Author.Needs.{needs}
 use Rattle.swept_path.proofs.moved.moved_bounds.Statement.{statement}

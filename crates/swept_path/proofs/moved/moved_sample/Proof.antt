@@ -1,5 +1,4 @@
 -- Both differences are values, so nothing is clamped.
-use mathlib.Core.Path.{_≡_, _∙_}
 use mir.Syntax.{w32}
 use mir.Facts.{toZ-ofZ}
 use Rattle.rules.specs.Values.{difference}

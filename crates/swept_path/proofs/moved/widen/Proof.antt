@@ -1,12 +1,11 @@
 -- The lesser and the greater on each axis.
-use mathlib.Core.Path.{_≡_, _∙_}
 use mir.Syntax.{w32}
 use mir.Facts.{toZ-ofZ}
 use Rattle.rules.specs.Values.{smaller, larger}
 use Rattle.fixed.proofs.Words.{back-two}
 use Rattle.fixed.proofs.Spans as Spans
 use Rattle.swept_rules.specs.Keeping.{widened}
-use Rattle.swept_path.proofs.PathLaws.{hulls, Fit, fit}
+use Rattle.swept_path.proofs.PathLaws.{hulls, fit}
 use borrow.Author.Needs.{needs}
 use Rattle.swept_path.proofs.moved.widen.Statement.{statement}
 use Rattle.swept_path.proofs.moved.widen.Tie as tie

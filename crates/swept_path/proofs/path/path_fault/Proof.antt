@@ -1,6 +1,4 @@
 -- Line 25 by its four tests.
-use mathlib.Core.Path.{_≡_, refl, sym, _∙_}
-use mathlib.Core.Bool.{true, false}
 use native.Mathlib.Omega.{arith}
 use Rattle.picture.proofs.Answers.{refused, passed}
 use Rattle.swept_path.proofs.PathLaws.{path-none, path-long, path-odd, path-tested}

@@ -1,10 +1,10 @@
 -- Filled with one number, or each pixel searched.
-use mathlib.Core.Path.{_≡_, sym, subst, _∙_}
+use mathlib.Core.Path.{_≡_, sym, subst}
 use native.Mathlib.Omega.{arith}
 use lib.Seq.{length-take-le}
 use Rattle.walk.specs.Cells.{regionIn}
 use Rattle.swept_pixels.proofs.PutLaws.{draws-of}
-use Rattle.swept_tiles.specs.Looks.{LookedAs, SameBy, OpenedBy}
+use Rattle.swept_tiles.specs.Looks.{LookedAs, OpenedBy}
 use Rattle.swept_tiles.specs.declared.look.Glance.{Glance}
 use Rattle.swept_tiles.proofs.LookLaws.{open-level, open-agrees}
 use borrow.Author.Needs.{needs}

@@ -1,5 +1,5 @@
 -- One number for the region, or the positions kept and the tape cut over their hull.
-use mathlib.Core.Path.{_≡_, sym, subst, _∙_}
+use mathlib.Core.Path.{_≡_, sym, subst}
 use native.Mathlib.Omega.{arith}
 use lib.Seq.{length-take-le}
 use Rattle.fixed.specs.Shapes.{boxIn}

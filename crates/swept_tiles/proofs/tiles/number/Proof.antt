@@ -1,8 +1,8 @@
 -- Each number at its own place.
-use mathlib.Core.Path.{_≡_, sym, subst, _∙_}
+use mathlib.Core.Path.{_≡_, subst}
 use Prim.Native.Nat.{ℕ, _-_}
 use native.Mathlib.Omega.{arith}
-use lib.ListN.{length, take}
+use lib.ListN.{take}
 use Rattle.swept_rules.specs.Keeping.{numbersFrom}
 use Rattle.swept_tiles.proofs.NumberLaws.{NumberedTo, numbers-begin, numbers-next}
 use Rattle.swept_tiles.proofs.tiles.number.Statement.{statement}

@@ -1,5 +1,5 @@
 -- All positions looked at, and filled with one number, or the regions of side 8 visited.
-use mathlib.Core.Path.{_≡_, sym, subst, _∙_}
+use mathlib.Core.Path.{_≡_, sym, subst}
 use Prim.Native.Nat.{_/_}
 use native.Mathlib.Omega.{arith}
 use lib.ListN.{length, take}
