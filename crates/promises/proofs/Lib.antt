@@ -5,3 +5,4 @@ pub mod Slopes
 pub mod Probes
 pub mod Texts
 pub mod Merging
+pub mod Plates

@@ -2,3 +2,5 @@
 pub mod Faults
 pub mod Sides
 pub mod Says
+pub mod Plates
+pub mod PlateRuns
