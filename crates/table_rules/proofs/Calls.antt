@@ -25,8 +25,7 @@ use Rattle.table_rules.specs.Tables.{tilesIn, turn, laid, beginLines, be
 use Rattle.table_rules.specs.Tables.{tableFault, drawLines, drawFault, Answer, written, BeginSays, DrawSays}
 use Rattle.table_rules.specs.Turns.{TrueEntry, Truthful, walkOver, knownIn, TrueTable, partDrawn, TrulyDrawn}
 use Rattle.table_rules.specs.Turns.{Call, begins, draws, World, Begins, Draws, Follows, Turn, Run, none, next}
-use Rattle.table_rules.specs.Turns.{DoneTruly, isOwn, pictureAfter, pictureBy, CallOf, OnePicture, ownFault}
-use Rattle.table_rules.specs.Turns.{ownNumber, pictureAlone, callsOf, withoutOthers}
+use Rattle.table_rules.specs.Turns.{DoneTruly, pictureAfter, pictureBy}
 use Rattle.table_rules.proofs.KeptMarks.{entry-of-ok, unknown-ok}
 use Rattle.table_rules.proofs.Heads.{tape-fits, begun-size, begun-head, begun-entry, same-bytes, bytes-same}
 use Rattle.table_rules.proofs.Heads.{head-tape, head-grid}
@@ -66,17 +65,6 @@ module _ (s : List ℕ) (g : Grid) (good : readTape s .number ≡ 0) (b : List �
   pub never-refused : tableFault s g b ≡ 0
   never-refused = rw true-ok
 
--- What a call returns over such a table is decided by the lines that read no table.
-without-line : (u v : List ℕ) (n : ℕ) → n ≡ 0 → firstFault (u ++ (n ∷ v)) ≡ firstFault (u ++ v)
-without-line [] v n e = rw e
-without-line (m ∷ u) v n e = ap (firstOf m) (without-line u v n e)
-
-pub own-number : (s : List ℕ) (d : Grid) (q : Rectangle) (b : List ℕ) (n m : ℕ) → readTape s .number ≡ 0
-    → Truthful s (flatGrid d) b → drawFault s (flatGrid d) q b n m ≡ ownFault s d q n m
-own-number s d q b n m e f =
-    without-line (ownLines s (flatGrid d) q) (lentLines (flatGrid d) n m) (tableFault s (flatGrid d) b)
-    (never-refused s (flatGrid d) e b f)
-
 -- A table that passes line 24 has the caller's head.
 pub off : (t : Bool) (n : ℕ) → when (not t) (suc n) ≡ 0 → t ≡ true
 off t n e = not-false t (last-off (not t) n e)
@@ -89,15 +77,22 @@ head-passed s g b e =
     same-bytes (take headLength b) (tableHead s g) (and-left (sameBytes (take headLength b) (tableHead s g)) _ l)
 
 -- A table has the tape and the grid of one caller.
+pub one-caller : (s u : List ℕ) (d c : Grid) (b : List ℕ) → readTape s .number ≡ 0 → readTape u .number ≡ 0
+    → gridFault false (flatGrid d) ≡ 0 → gridFault false (flatGrid c) ≡ 0 → Truthful u (flatGrid c) b
+    → tableFault s (flatGrid d) b ≡ 0 → (u ≡ s) × (flatGrid c ≡ flatGrid d)
+one-caller s u d c b e k h l f t =
+    let heads = sym (f .head) ∙ head-passed s (flatGrid d) b t in (
+      head-tape u s (flatGrid c) (flatGrid d) k e heads,
+      head-grid u s (flatGrid c) (flatGrid d) (tape-fits u k) (tape-fits s e) l h heads,
+    )
+
+pub moved : (s u : List ℕ) (g f : Grid) (b : List ℕ) → (u ≡ s) × (f ≡ g) → Truthful u f b → Truthful s g b
+moved s u g f b e t = subst (λ x. Truthful x g b) (e .0) (subst (λ x. Truthful u x b) (e .1) t)
+
 pub same-caller : (s u : List ℕ) (d c : Grid) (b : List ℕ) → readTape s .number ≡ 0 → readTape u .number ≡ 0
     → gridFault false (flatGrid d) ≡ 0 → gridFault false (flatGrid c) ≡ 0 → Truthful u (flatGrid c) b
     → tableFault s (flatGrid d) b ≡ 0 → Truthful s (flatGrid d) b
-same-caller s u d c b e k h l f t =
-    let heads = sym (f .head) ∙ head-passed s (flatGrid d) b t in
-    let same : u ≡ s = head-tape u s (flatGrid c) (flatGrid d) k e heads in
-    let grids : flatGrid c ≡ flatGrid d =
-    head-grid u s (flatGrid c) (flatGrid d) (tape-fits u k) (tape-fits s e) l h heads in
-    subst (λ x. Truthful x (flatGrid d) b) same (subst (λ x. Truthful u x b) grids f)
+same-caller s u d c b e k h l f t = moved s u (flatGrid d) (flatGrid c) b (one-caller s u d c b e k h l f t) f
 
 -- A call that is done leaves what it made, one that is refused all bytes as they came.
 pub done-left : {A : Type 0} (n : ℕ) (new old left : List A) → n ≡ 0 → left ≡ written n new old → left ≡ new
@@ -193,7 +188,7 @@ begin-keeps s d b b′ r a says = go (eqb n 0) refl
 
 -- Along any run of calls, done or refused, by any users, with any tapes, grids and rectangles.
 pub step-keeps : (c : Call) (w m : World) (r : Answer) → Follows c w m r → TrueTable (w .table) → TrueTable (m .table)
-step-keeps (begins s d) w m r f a = begin-keeps s d (w .table) (m .table) r a (f .says)
+step-keeps (begins u s d) w m r f a = begin-keeps s d (w .table) (m .table) r a (f .says)
 step-keeps (draws u s d q k) w m r f a =
     draw-keeps s d q (w .table) (m .table) (w .pictures u) (m .pictures u) k (f .work) r a (f .says)
 
@@ -203,7 +198,7 @@ run-keeps (next {w} {m} {w′} {c} {r} {ks} f rest) a = run-keeps rest (step-kee
 
 step-done : (c : Call) (w m : World) (r : Answer) → Follows c w m r → TrueTable (w .table) → r .number ≡ 0
     → DoneTruly c w m r
-step-done (begins s d) w m r f a e = begin-done s d (w .table) (m .table) r (f .says) e
+step-done (begins u s d) w m r f a e = begin-done s d (w .table) (m .table) r (f .says) e
 step-done (draws u s d q k) w m r f a e =
     draw-done s d q (w .table) (m .table) (w .pictures u) (m .pictures u) k (f .work) r a (f .says) e
 
@@ -232,10 +227,10 @@ drawn-picture u s d q k w m r f a = go (eqb (r .number) 0) refl
     go false e =
         refused-left n _ o (m .pictures u) (ap (λ x. eqb x 0) (sym (f .says .answer .number)) ∙ e) (f .says .pixels)
 
-step-picture : (u : ℕ) (c : Call) (w m : World) (r : Answer) → Follows c w m r → TrueTable (w .table)
+pub step-picture : (u : ℕ) (c : Call) (w m : World) (r : Answer) → Follows c w m r → TrueTable (w .table)
     → m .pictures u ≡ pictureAfter u c (r .number) (w .pictures u)
 unfolding pictureAfter
-step-picture u (begins s d) w m r f a = f .others u
+step-picture u (begins v s d) w m r f a = f .others u
 step-picture u (draws v s d q k) w m r f a = go (eqb v u) refl
   where
     go : (t : Bool) → eqb v u ≡ t → m .pictures u
@@ -252,132 +247,6 @@ run-pictures none a u = refl
 run-pictures (next {w} {m} {w′} {c} {r} {ks} f rest) a u =
     run-pictures rest (step-keeps c w m r f a) u ∙ ap (pictureBy u ks) (step-picture u c w m r f a)
 
--- Runs of one picture: every table on the way is truthful of its tape and grid.
-module _ (s : List ℕ) (d : Grid) (good : readTape s .number ≡ 0) (fine : gridFault false (flatGrid d) ≡ 0) where
-  abbrev Ours : List ℕ → Type 0
-  Ours b = Truthful s (flatGrid d) b
-
-  true-table : (b : List ℕ) → Ours b → TrueTable b
-  true-table b f = record { bytes = s; grid = d; read = good; accepted = fine; truthful = f }
-
-  ours : (s′ : List ℕ) (d′ : Grid) (b : List ℕ) → (s′ ≡ s) × (flatGrid d′ ≡ flatGrid d) → Truthful s′ (flatGrid d′) b
-      → Ours b
-  ours s′ d′ b e f = subst (λ x. Truthful s x b) (e .1) (subst (λ x. Truthful x (flatGrid d′) b) (e .0) f)
-
-  theirs : (s′ : List ℕ) (d′ : Grid) (b : List ℕ) → (s′ ≡ s) × (flatGrid d′ ≡ flatGrid d) → Ours b
-      → Truthful s′ (flatGrid d′) b
-  theirs s′ d′ b e f =
-      subst (λ x. Truthful x (flatGrid d′) b) (sym (e .0)) (subst (λ x. Truthful s x b) (sym (e .1)) f)
-
-  step-ours : (c : Call) (w m : World) (r : Answer) → CallOf s d c → Follows c w m r → Ours (w .table) → Ours (m .table)
-  step-ours (begins s′ d′) w m r e f a = go (eqb n 0) refl
-    where
-      n : ℕ
-      n = beginFault s′ (flatGrid d′) (length (w .table))
-
-      go : (t : Bool) → eqb n 0 ≡ t → Ours (m .table)
-      go true h =
-          ours s′ d′ (m .table) e
-          (begin-done s′ d′ (w .table) (m .table) r (f .says) (f .says .answer .number ∙ eqb-true n 0 h))
-      go false h = subst Ours (sym (refused-left n _ (w .table) (m .table) h (f .says .table))) a
-  step-ours (draws u s′ d′ q k) w m r e f a = go (eqb n 0) refl
-    where
-      n : ℕ
-      n = drawFault s′ (flatGrid d′) q (w .table) (length (w .pictures u)) (length k)
-
-      go : (t : Bool) → eqb n 0 ≡ t → Ours (m .table)
-      go true h =
-          ours s′ d′ (m .table) e
-          (draw-done s′ d′ q (w .table) (m .table) (w .pictures u) (m .pictures u) k (f .work) r
-          (true-table (w .table) a) (f .says) (f .says .answer .number ∙ eqb-true n 0 h) .table)
-      go false h = subst Ours (sym (refused-left n _ (w .table) (m .table) h (f .says .table))) a
-
-  -- What a user's call returns does not depend on the others.
-  step-alone : (u : ℕ) (c : Call) (w m : World) (r : Answer) → CallOf s d c → Follows c w m r → Ours (w .table)
-      → m .pictures u ≡ pictureAfter u c (ownNumber c (w .pictures u)) (w .pictures u)
-  unfolding pictureAfter ownNumber
-  step-alone u (begins s′ d′) w m r e f a = f .others u
-  step-alone u (draws v s′ d′ q k) w m r e f a =
-      step-picture u (draws v s′ d′ q k) w m r f (true-table (w .table) a) ∙ go (eqb v u) refl
-    where
-      number : v ≡ u → r .number ≡ ownFault s′ d′ q (length (w .pictures u)) (length k)
-      number h =
-          f .says .answer .number
-          ∙ own-number s′ d′ q (w .table) (length (w .pictures v)) (length k)
-          (ap (λ x. readTape x .number) (e .0) ∙ good)
-          (theirs s′ d′ (w .table) e a)
-          ∙ ap (λ x. ownFault s′ d′ q (length (w .pictures x)) (length k)) h
-
-      go : (t : Bool) → eqb v u ≡ t
-          → pick t (pick (eqb (r .number) 0) (partDrawn s′ d′ q (w .pictures u)) (w .pictures u)) (w .pictures u)
-          ≡ pick t (pick (eqb (ownFault s′ d′ q (length (w .pictures u)) (length k)) 0)
-          (partDrawn s′ d′ q (w .pictures u)) (w .pictures u)) (w .pictures u)
-      go true h =
-          ap (λ x. pick (eqb x 0) (partDrawn s′ d′ q (w .pictures u)) (w .pictures u)) (number (eqb-true v u h))
-      go false h = refl
-
-  -- Calls of others leave it as it is.
-  alone-step : (u : ℕ) (c : Call) (ks : List Turn) (o : List ℕ)
-      → pictureAlone u (withoutOthers u (callsOf ks)) (pictureAfter u c (ownNumber c o) o)
-      ≡ pictureAlone u (withoutOthers u (c ∷ callsOf ks)) o
-  unfolding pictureAlone withoutOthers pictureAfter ownNumber
-  alone-step u (begins s′ d′) ks o = refl
-  alone-step u (draws v s′ d′ q k) ks o = go (eqb v u) refl
-    where
-      p : List ℕ
-      p = pick (eqb (ownFault s′ d′ q (length o) (length k)) 0) (partDrawn s′ d′ q o) o
-
-      go : (t : Bool) → eqb v u ≡ t → pictureAlone u (withoutOthers u (callsOf ks)) (pick t p o)
-          ≡ pictureAlone u (pick t (draws v s′ d′ q k ∷ withoutOthers u (callsOf ks)) (withoutOthers u (callsOf ks))) o
-      go true e = ap (λ x. pictureAlone u (withoutOthers u (callsOf ks)) (pick x p o)) (sym e)
-      go false e = refl
-
-  -- "each user's picture is what it would be without the other".
-  pub one-picture : {w w′ : World} {ks : List Turn} → Run w ks w′ → OnePicture s d ks → Ours (w .table) → (u : ℕ)
-      → w′ .pictures u ≡ pictureAlone u (withoutOthers u (callsOf ks)) (w .pictures u)
-  unfolding OnePicture pictureAlone withoutOthers
-  one-picture none e a u = refl
-  one-picture (next {w} {m} {w′} {c} {r} {ks} f rest) e a u =
-      one-picture rest (e .1) (step-ours c w m r (e .0) f a) u
-      ∙ ap (pictureAlone u (withoutOthers u (callsOf ks))) (step-alone u c w m r (e .0) f a)
-      ∙ alone-step u c ks (w .pictures u)
-
--- So a run in which the others don't draw leaves the user the same picture.
-own-again : (u : ℕ) (cs : List Call) → withoutOthers u (withoutOthers u cs) ≡ withoutOthers u cs
-unfolding withoutOthers
-own-again u [] = refl
-own-again u (c ∷ cs) = go (isOwn u c) refl (own-again u cs)
-  where
-    go : (t : Bool) → isOwn u c ≡ t → withoutOthers u (withoutOthers u cs) ≡ withoutOthers u cs
-        → withoutOthers u (pick t (c ∷ withoutOthers u cs) (withoutOthers u cs))
-        ≡ pick t (c ∷ withoutOthers u cs) (withoutOthers u cs)
-    go true e ih =
-        ap (λ t. pick t (c ∷ withoutOthers u (withoutOthers u cs)) (withoutOthers u (withoutOthers u cs))) e
-        ∙ ap (λ xs. c ∷ xs) ih
-    go false e ih = ih
-
-pub without-the-other : (s : List ℕ) (d : Grid) → readTape s .number ≡ 0 → gridFault false (flatGrid d) ≡ 0
-    → {w w′ v v′ : World} {ks ls : List Turn} → Run w ks w′ → Run v ls v′ → OnePicture s d ks → OnePicture s d ls
-    → Truthful s (flatGrid d) (w .table) → Truthful s (flatGrid d) (v .table)
-    → (u : ℕ) → v .pictures u ≡ w .pictures u → callsOf ls ≡ withoutOthers u (callsOf ks)
-    → v′ .pictures u ≡ w′ .pictures u
-without-the-other s d good fine {w} {w′} {v} {v′} {ks} {ls} run alone one two a b u same own =
-    one-picture s d good fine alone two b u
-    ∙ ap (λ o. pictureAlone u (withoutOthers u (callsOf ls)) o) same
-    ∙ ap (λ cs. pictureAlone u (withoutOthers u cs) (w .pictures u)) own
-    ∙ ap (λ cs. pictureAlone u cs (w .pictures u)) (own-again u (callsOf ks))
-    ∙ sym (one-picture s d good fine run one a u)
-
--- "From a newly begun table, in any order of turns": a table begun and then drawn by any users.
-pub from-begun : (s : List ℕ) (d : Grid) {w m w′ : World} {r : Answer} {ks : List Turn} → Begins s d w m r
-    → r .number ≡ 0 → Run m ks w′ → OnePicture s d ks → (u : ℕ)
-    → w′ .pictures u ≡ pictureAlone u (withoutOthers u (callsOf ks)) (w .pictures u)
-from-begun s d {w} {m} {w′} {r} {ks} f e run one u =
-    let z = sym (f .says .answer .number) ∙ e in
-    let line = each-line (beginLines s (flatGrid d) (length (w .table))) z in
-    one-picture s d (line 0) (line 1) run one (begin-done s d (w .table) (m .table) r (f .says) e) u
-    ∙ ap (pictureAlone u (withoutOthers u (callsOf ks))) (f .others u)
-
 -- Every call in every world has an outcome: no promise contradicts itself, so that runs of all lengths exist.
 pub record Outcome (c : Call) (w : World) : Type 0 where
   pub after : World
@@ -385,7 +254,7 @@ pub record Outcome (c : Call) (w : World) : Type 0 where
   pub follows : Follows c w after answer
 
 pub outcome : (c : Call) (w : World) → Outcome c w
-outcome (begins s d) w =
+outcome (begins u s d) w =
     let n = beginFault s (flatGrid d) (length (w .table)) in
     record {
       after = record { table = written n (begun s (flatGrid d)) (w .table); pictures = w .pictures };

@@ -16,36 +16,39 @@ use Rattle.rules.proofs.Grids.{accepted-sound}
 use Rattle.order_rules.specs.Orders.{cleared, total}
 use Rattle.table_rules.specs.Tables.{flatGrid, begun, tileOf, Rectangle, rectangleOk, tilesIn, turn}
 use Rattle.table_rules.specs.Tables.{beginLines, beginFault, drawLines, drawFault, Answer, BeginSays, DrawSays}
-use Rattle.table_rules.specs.Turns.{walkOver, TrueTable, Call, begins, draws, World, Draws, Follows, Turn, Run}
-use Rattle.table_rules.specs.Turns.{none, next, tilePart, countIn, Knows, knownThen, knownAfter}
+use Rattle.table_rules.specs.Turns.{walkOver, TrueTable, Call, begins, draws, World, Begins, Draws, Follows}
+use Rattle.table_rules.specs.Turns.{Turn, Run, none, next, tilePart, countIn, Knows, knownThen, knownAfter}
 use Rattle.table_rules.proofs.Heads.{tape-fits}
 use Rattle.table_rules.proofs.Numbers.{in-tiles, tiles-rising}
 use Rattle.table_rules.proofs.Drawn.{flat-sides}
 use Rattle.table_rules.proofs.Calls.{off, same-caller, done-left, refused-left, draw-done, step-keeps}
-use Rattle.table_rules.proofs.Calls.{run-keeps}
+use Rattle.table_rules.proofs.Calls.{run-keeps, begin-true}
 use Rattle.table_rules.proofs.Counts.{begun-knows, known-count, turn-knows, parts-added}
 
--- What a table knows after a call.
-begin-knows : (s : List ℕ) (d : Grid) (b b′ : List ℕ) (r : Answer) (K : ℕ → Bool) → BeginSays s d b b′ r → Knows b K
-    → Knows b′ (knownThen (begins s d) (r .number) K)
-unfolding knownThen
-begin-knows s d b b′ r K says f = go (eqb (r .number) 0) refl
-  where
-    g : Grid
-    g = flatGrid d
+-- What a table knows after a call: newly begun none, whatever it knew before.
+pub begin-unknown : (s : List ℕ) (d : Grid) (b b′ : List ℕ) (r : Answer) → BeginSays s d b b′ r → r .number ≡ 0
+    → Knows b′ (λ i. false)
+begin-unknown s d b b′ r says e =
+    let g = flatGrid d in
+    let n = beginFault s g (length b) in
+    let z : n ≡ 0 = sym (says .answer .number) ∙ e in
+    subst (λ x. Knows x (λ i. false)) (sym (done-left n (begun s g) b b′ z (says .table)))
+    (begun-knows s g (tape-fits s (each-line (beginLines s g (length b)) z 0)))
 
+pub begin-knows : (u : ℕ) (s : List ℕ) (d : Grid) (b b′ : List ℕ) (r : Answer) (K : ℕ → Bool) → BeginSays s d b b′ r
+    → Knows b K → Knows b′ (knownThen (begins u s d) (r .number) K)
+unfolding knownThen
+begin-knows u s d b b′ r K says f = go (eqb (r .number) 0) refl
+  where
     n : ℕ
-    n = beginFault s g (length b)
+    n = beginFault s (flatGrid d) (length b)
 
     go : (t : Bool) → eqb (r .number) 0 ≡ t → Knows b′ (pick t (λ i. false) K)
-    go true e =
-        let z : n ≡ 0 = sym (says .answer .number) ∙ eqb-true (r .number) 0 e in
-        let good = each-line (beginLines s g (length b)) z 0 in
-        subst (λ x. Knows x (λ i. false)) (sym (done-left n (begun s g) b b′ z (says .table)))
-        (begun-knows s g (tape-fits s good))
+    go true e = begin-unknown s d b b′ r says (eqb-true (r .number) 0 e)
     go false e =
         subst (λ x. Knows x K)
-        (sym (refused-left n (begun s g) b b′ (ap (λ x. eqb x 0) (sym (says .answer .number)) ∙ e) (says .table))) f
+        (sym (refused-left n (begun s (flatGrid d)) b b′ (ap (λ x. eqb x 0) (sym (says .answer .number)) ∙ e)
+        (says .table))) f
 
 draw-knows : (u : ℕ) (s : List ℕ) (d : Grid) (q : Rectangle) (b b′ o o′ w w′ : List ℕ) (r : Answer) (K : ℕ → Bool)
     → TrueTable b → DrawSays s d q b b′ o o′ w w′ r → Knows b K
@@ -77,7 +80,7 @@ draw-knows u s d q b b′ o o′ w w′ r K a says f = go (eqb (r .number) 0) re
 
 step-knows : (c : Call) (w m : World) (r : Answer) (K : ℕ → Bool) → Follows c w m r → TrueTable (w .table)
     → Knows (w .table) K → Knows (m .table) (knownThen c (r .number) K)
-step-knows (begins s d) w m r K f a k = begin-knows s d (w .table) (m .table) r K (f .says) k
+step-knows (begins u s d) w m r K f a k = begin-knows u s d (w .table) (m .table) r K (f .says) k
 step-knows (draws u s d q l) w m r K f a k =
     draw-knows u s d q (w .table) (m .table) (w .pictures u) (m .pictures u) l (f .work) r K a (f .says) k
 
@@ -117,3 +120,16 @@ run-count {w} {m} {w′} {ks} run a K k u s d q l r f e =
   where
     zero-plus : (a : ℕ) → 0 + a ≡ a
     zero-plus a = omega arith
+
+-- "From a newly begun table": the count of a drawing after any run from there. Known are the tiles of the rectangles
+-- that were drawn since, by whomever; the table may be begun anew on the way.
+pub begun-count : (s₀ : List ℕ) (d₀ : Grid) {w₀ w m w′ : World} {r₀ : Answer} {ks : List Turn} → Begins s₀ d₀ w₀ w r₀
+    → r₀ .number ≡ 0 → Run w ks m → (u : ℕ) (s : List ℕ) (d : Grid) (q : Rectangle) (l : List ℕ) (r : Answer)
+    → Draws u s d q l m w′ r → r .number ≡ 0
+    → let t = readTape s .tape in
+    let is = tilesIn (flatGrid d) q in
+    r .count + countIn (knownAfter ks (λ i. false)) is * length (t .clauses)
+    ≡ total (map (tilePart t (flatGrid d)) is)
+begun-count s₀ d₀ {w₀} {w} {m} {w′} {r₀} {ks} f₀ e₀ run u s d q l r f e =
+    run-count run (begin-true s₀ d₀ (w₀ .table) (w .table) r₀ (f₀ .says) e₀) (λ i. false)
+    (begin-unknown s₀ d₀ (w₀ .table) (w .table) r₀ (f₀ .says) e₀) u s d q l r f e

@@ -6,13 +6,13 @@ use mathlib.Core.List.{List, [], _∷_, _++_, map}
 use Prim.Native.Nat.{ℕ, suc, _+_, _*_, _<_}
 use lib.Dec.{eqb}
 use lib.ListN.{length, take}
-use Rattle.rules.specs.Values.{pick, firstFault}
-use Rattle.rules.specs.Tapes.{Tape, readTape, isIn}
+use Rattle.rules.specs.Values.{pick, firstFault, when}
+use Rattle.rules.specs.Tapes.{Tape, placeOf, readTape, isIn}
 use Rattle.rules.specs.Drawings.{Grid, gridFault, State, state, fold, visit, sides, drawn}
 use Rattle.rules.specs.Pictures.{picture}
 use Rattle.order_rules.specs.Orders.{cleared}
 use Rattle.table_rules.specs.Tables.{headLength, entryLength, tileLimit, tableLength, zeros, flatGrid}
-use Rattle.table_rules.specs.Tables.{tableHead, tilesAcross, tilesDown, tileOf, entryIn, verdictIn, entryOf}
+use Rattle.table_rules.specs.Tables.{tableHead, sameBytes, beginFault, tilesAcross, tilesDown, tileOf, entryIn, verdictIn, entryOf}
 use Rattle.table_rules.specs.Tables.{Rectangle, tilesIn, laid, ownLines, lentLines, Answer, BeginSays}
 use Rattle.table_rules.specs.Tables.{DrawSays}
 
@@ -59,7 +59,7 @@ pub record TrulyDrawn (s : List ℕ) (d : Grid) (q : Rectangle) (b b′ o o′ :
 -- Calls of any number of users: each has a number and a picture of its own, and lends the table, which all share, and
 -- a work buffer. A call is refused or done; what it leaves is what its own promise says.
 pub data Call : Type 0 where
-  begins : List ℕ → Grid → Call
+  begins : ℕ → List ℕ → Grid → Call
   draws : ℕ → List ℕ → Grid → Rectangle → List ℕ → Call
 
 pub record World : Type 0 where
@@ -76,7 +76,7 @@ pub record Draws (u : ℕ) (s : List ℕ) (d : Grid) (q : Rectangle) (k : List �
   pub others : (v : ℕ) → (v ≡ u → ⊥) → w′ .pictures v ≡ w .pictures v
 
 abbrev pub Follows : Call → World → World → Answer → Type 0
-Follows (begins s d) w w′ r = Begins s d w w′ r
+Follows (begins u s d) w w′ r = Begins s d w w′ r
 Follows (draws u s d q k) w w′ r = Draws u s d q k w w′ r
 
 -- A run: calls with their answers, one after another.
@@ -94,12 +94,20 @@ pub data Run : World → List Turn → World → Type 0 where
 
 -- What a call that is done has done.
 abbrev pub DoneTruly : Call → World → World → Answer → Type 0
-DoneTruly (begins s d) w w′ r = Truthful s (flatGrid d) (w′ .table)
+DoneTruly (begins u s d) w w′ r = Truthful s (flatGrid d) (w′ .table)
 DoneTruly (draws u s d q k) w w′ r = TrulyDrawn s d q (w .table) (w′ .table) (w .pictures u) (w′ .pictures u) r
 
+-- Whose call it is, and its tape.
+abbrev pub userOf : Call → ℕ
+userOf (begins u s d) = u
+userOf (draws u s d q k) = u
+
+abbrev pub tapeIn : Call → List ℕ
+tapeIn (begins u s d) = s
+tapeIn (draws u s d q k) = s
+
 abbrev pub isOwn : ℕ → Call → Bool
-isOwn u (begins s d) = true
-isOwn u (draws v s d q k) = eqb v u
+isOwn u c = eqb (userOf c) u
 
 -- The count by numbers alone: the tile's part of the walk's sum, which in a flat picture does not depend on other
 -- tiles; and how many tiles of a list are known.
@@ -116,7 +124,7 @@ pub record Knows (b : List ℕ) (K : ℕ → Bool) : Type 0 where
   pub says : (i : ℕ) → i < tileLimit → eqb (verdictIn (entryIn i b)) 0 ≡ not (K i)
 
 unfoldable pub knownThen : Call → ℕ → (ℕ → Bool) → ℕ → Bool
-knownThen (begins s d) n K = pick (eqb n 0) (λ i. false) K
+knownThen (begins u s d) n K = pick (eqb n 0) (λ i. false) K
 knownThen (draws u s d q k) n K = pick (eqb n 0) (λ i. isIn i (tilesIn (flatGrid d) q) || K i) K
 
 unfoldable pub knownAfter : List Turn → (ℕ → Bool) → ℕ → Bool
@@ -125,39 +133,74 @@ knownAfter (k ∷ ks) K = knownAfter ks (knownThen (k .call) (k .answer .number)
 
 -- A user's picture after a call that returned the number n; after a run, by the answers to its own calls.
 unfoldable pub pictureAfter : ℕ → Call → ℕ → List ℕ → List ℕ
-pictureAfter u (begins s d) n o = o
+pictureAfter u (begins v s d) n o = o
 pictureAfter u (draws v s d q k) n o = pick (eqb v u) (pick (eqb n 0) (partDrawn s d q o) o) o
 
 unfoldable pub pictureBy : ℕ → List Turn → List ℕ → List ℕ
 pictureBy u [] o = o
 pictureBy u (k ∷ ks) o = pictureBy u ks (pictureAfter u (k .call) (k .answer .number) o)
 
--- "one flat picture": all calls of the run have the tape s and the grid d, up to depth and third step.
-abbrev pub CallOf : List ℕ → Grid → Call → Type 0
-CallOf s d (begins s′ d′) = (s′ ≡ s) × (flatGrid d′ ≡ flatGrid d)
-CallOf s d (draws u s′ d′ q k) = (s′ ≡ s) × (flatGrid d′ ≡ flatGrid d)
+-- "one flat picture": no call of a run begins the table for another tape or grid than s and d. Drawings with another
+-- tape or grid may be among the calls, and beginnings that are turned down.
+abbrev pub Stays : List ℕ → Grid → Call → Type 0
+Stays s d (begins u s′ d′) = beginFault s′ (flatGrid d′) tableLength ≡ 0 → (s′ ≡ s) × (flatGrid d′ ≡ flatGrid d)
+Stays s d (draws u s′ d′ q k) = Unit {0}
 
-unfoldable pub OnePicture : List ℕ → Grid → List Turn → Type 0
+unfoldable pub OnePicture : List ℕ → Grid → List Call → Type 0
 OnePicture s d [] = Unit {0}
-OnePicture s d (k ∷ ks) = CallOf s d (k .call) × OnePicture s d ks
+OnePicture s d (c ∷ cs) = Stays s d c × OnePicture s d cs
 
--- "each user's picture is what it would be without the other": the picture by the user's own calls alone. No table and
--- no answer is in it: what a call returns is decided by the lines that read no table.
-abbrev pub ownFault : List ℕ → Grid → Rectangle → ℕ → ℕ → ℕ
-ownFault s d q n m = firstFault (ownLines s (flatGrid d) q ++ lentLines (flatGrid d) n m)
+-- "each user's picture is what it would be without the other. Only the count may show the other's work": what a user's
+-- calls return, the count apart, and the picture that they leave, by these calls alone. No table and no answer is in
+-- it: of the table, a call's number depends on the tape and the grid that it was begun for.
+abbrev pub headFault : List ℕ → Grid → List ℕ → Grid → ℕ
+headFault s d s′ d′ = when (not (sameBytes (tableHead s (flatGrid d)) (tableHead s′ (flatGrid d′)))) 24
 
-unfoldable pub ownNumber : Call → List ℕ → ℕ
-ownNumber (begins s d) o = 0
-ownNumber (draws v s d q k) o = ownFault s d q (length o) (length k)
+abbrev pub ownFault : List ℕ → Grid → List ℕ → Grid → Rectangle → ℕ → ℕ → ℕ
+ownFault s d s′ d′ q n m =
+    firstFault (ownLines s′ (flatGrid d′) q ++ (headFault s d s′ d′ ∷ lentLines (flatGrid d′) n m))
 
-unfoldable pub pictureAlone : ℕ → List Call → List ℕ → List ℕ
-pictureAlone u [] o = o
-pictureAlone u (c ∷ cs) o = pictureAlone u cs (pictureAfter u c (ownNumber c o) o)
+unfoldable pub ownNumber : List ℕ → Grid → Call → List ℕ → ℕ
+ownNumber s d (begins u s′ d′) o = beginFault s′ (flatGrid d′) tableLength
+ownNumber s d (draws u s′ d′ q k) o = ownFault s d s′ d′ q (length o) (length k)
 
--- The calls of a run, and those without the ones by which others draw.
+unfoldable pub pictureAlone : List ℕ → Grid → ℕ → List Call → List ℕ → List ℕ
+pictureAlone s d u [] o = o
+pictureAlone s d u (c ∷ cs) o = pictureAlone s d u cs (pictureAfter u c (ownNumber s d c o) o)
+
+-- Number and place.
+pub record Returned : Type 0 where
+  pub number : ℕ
+  pub place : ℕ
+
+abbrev pub returning : ℕ → ℕ → Returned
+returning n p = record { number = n; place = p }
+
+abbrev pub returnOf : List ℕ → Grid → Call → List ℕ → Returned
+returnOf s d c o =
+    returning (ownNumber s d c o) (placeOf (ownNumber s d c o) (readTape (tapeIn c) .place))
+
+unfoldable pub returnsAlone : List ℕ → Grid → ℕ → List Call → List ℕ → List Returned
+returnsAlone s d u [] o = []
+returnsAlone s d u (c ∷ cs) o =
+    returnOf s d c o ∷ returnsAlone s d u cs (pictureAfter u c (ownNumber s d c o) o)
+
+-- What a user's own calls in a run returned.
+unfoldable pub ownReturns : ℕ → List Turn → List Returned
+ownReturns u [] = []
+ownReturns u (k ∷ ks) =
+    pick (isOwn u (k .call)) (returning (k .answer .number) (k .answer .place) ∷ ownReturns u ks) (ownReturns u ks)
+
+-- The calls of a run, and those without the ones of others.
 abbrev pub callsOf : List Turn → List Call
 callsOf ks = map (λ k. k .call) ks
 
 unfoldable pub withoutOthers : ℕ → List Call → List Call
 withoutOthers u [] = []
 withoutOthers u (c ∷ cs) = pick (isOwn u c) (c ∷ withoutOthers u cs) (withoutOthers u cs)
+
+-- A run ks that ends in w, and a run ls that ends in v, are the same for a user: the picture, and number and place of
+-- each of its own calls.
+pub record SameFor (u : ℕ) (ks ls : List Turn) (w v : World) : Type 0 where
+  pub picture : v .pictures u ≡ w .pictures u
+  pub returns : ownReturns u ls ≡ ownReturns u ks
