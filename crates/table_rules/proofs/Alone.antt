@@ -2,25 +2,25 @@
 -- work". Others may begin the table, draw, be turned down, and come with another tape or grid.
 use mathlib.Core.Path.{_≡_, refl, sym, ap, ap₂, subst, _∙_}
 use mathlib.Core.Bool.{Bool, true, false, not}
-use mathlib.Core.List.{List, [], _∷_, _++_, map}
+use mathlib.Core.List.{List, [], _∷_, _++_}
 use Prim.Native.Nat.{ℕ, zero, suc}
 use lib.Dec.{eqb}
 use lib.ListN.{length, take}
-use borrow.Author.Tests.{eqb-true, eqb-false, eq-eqb}
+use borrow.Author.Tests.{eqb-true, eq-eqb}
 use Rattle.rules.specs.Values.{pick, firstOf, firstFault, when}
 use Rattle.rules.specs.Tapes.{placeOf, readTape}
 use Rattle.rules.specs.Drawings.{Grid, gridFault}
 use Rattle.rules.proofs.Lines.{each-line, lines-after}
-use Rattle.table_rules.specs.Tables.{headLength, tableLength, flatGrid, tableHead, entriesOk, sameBytes, tableOk}
-use Rattle.table_rules.specs.Tables.{tileLimit, Rectangle, beginLines, beginFault, ownLines, lentLines, tableFault}
+use Rattle.table_rules.specs.Tables.{headLength, tableLength, flatGrid, tableHead, sameBytes, tableOk}
+use Rattle.table_rules.specs.Tables.{Rectangle, beginLines, beginFault, ownLines, lentLines, tableFault}
 use Rattle.table_rules.specs.Tables.{drawLines, drawFault, Answer}
 use Rattle.table_rules.specs.Turns.{Truthful, TrueTable, partDrawn, Call, begins, draws, World, Begins, Draws}
-use Rattle.table_rules.specs.Turns.{Follows, Turn, turnOf, Run, none, next, userOf, tapeIn, isOwn, pictureAfter, Stays}
+use Rattle.table_rules.specs.Turns.{Follows, Turn, turnOf, Run, none, next, userOf, isOwn, pictureAfter, Stays}
 use Rattle.table_rules.specs.Turns.{OnePicture, headFault, ownFault, ownNumber, pictureAlone, returning, returnOf}
 use Rattle.table_rules.specs.Turns.{returnsAlone, ownReturns, callsOf, withoutOthers, SameFor}
 use Rattle.table_rules.proofs.Heads.{tape-fits, same-bytes, head-tape, head-grid}
 use Rattle.table_rules.proofs.Calls.{never-refused, moved, one-caller, refused-left, draw-done, begin-done}
-use Rattle.table_rules.proofs.Calls.{step-picture, Outcome, outcome}
+use Rattle.table_rules.proofs.Calls.{step-picture, outcome}
 
 -- A line that is the same wherever the lines before it are 0.
 line-for : (u v : List ℕ) (x y : ℕ) → (firstFault u ≡ 0 → x ≡ y)

@@ -4,13 +4,13 @@
 use mathlib.Core.Path.{_≡_, refl, sym, ap, subst, _∙_}
 use mathlib.Core.Bool.{Bool, true, false, not}
 use mathlib.Core.Logic.{inl, inr}
-use mathlib.Core.List.{List, [], _∷_, _++_, map}
+use mathlib.Core.List.{List, map}
 use Prim.Native.Nat.{ℕ, zero, suc, _+_, _*_, _≤_}
 use native.Mathlib.Omega.{arith}
 use lib.Dec.{eqb}
 use lib.ListN.{length, take, replicate}
 use borrow.Author.Tests.{eqb-true, eqb-false, eq-eqb, ne-eqb, not-false}
-use Rattle.rules.specs.Values.{pick, firstOf, firstFault, when}
+use Rattle.rules.specs.Values.{pick, when}
 use Rattle.rules.specs.Tapes.{placeOf, readTape}
 use Rattle.rules.specs.Drawings.{Grid, gridFault, solid, fold, visit}
 use Rattle.rules.specs.Pictures.{picture}
@@ -21,10 +21,10 @@ use Rattle.rules.proofs.Grids.{accepted-sound}
 use Rattle.order_rules.specs.Orders.{cleared}
 use Rattle.table_rules.specs.Tables.{headLength, tileLimit, tableLength, flatGrid, tableHead, begun, tileOf}
 use Rattle.table_rules.specs.Tables.{entryIn, entryOk, entriesOk, sameBytes, tableOk, Rectangle, rectangleOk}
-use Rattle.table_rules.specs.Tables.{tilesIn, turn, laid, beginLines, beginFault, ownLines, lentLines}
+use Rattle.table_rules.specs.Tables.{tilesIn, turn, laid, beginLines, beginFault}
 use Rattle.table_rules.specs.Tables.{tableFault, drawLines, drawFault, Answer, written, BeginSays, DrawSays}
 use Rattle.table_rules.specs.Turns.{TrueEntry, Truthful, walkOver, knownIn, TrueTable, partDrawn, TrulyDrawn}
-use Rattle.table_rules.specs.Turns.{Call, begins, draws, World, Begins, Draws, Follows, Turn, Run, none, next}
+use Rattle.table_rules.specs.Turns.{Call, begins, draws, World, Draws, Follows, Turn, Run, none, next}
 use Rattle.table_rules.specs.Turns.{DoneTruly, pictureAfter, pictureBy}
 use Rattle.table_rules.proofs.KeptMarks.{entry-of-ok, unknown-ok}
 use Rattle.table_rules.proofs.Heads.{tape-fits, begun-size, begun-head, begun-entry, same-bytes, bytes-same}

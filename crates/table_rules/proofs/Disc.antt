@@ -10,7 +10,7 @@ use Rattle.rules.specs.Values.{smaller, larger, sum, difference, product, squar
 use Rattle.rules.specs.Values.{binaryValue, valueOf, sumR, differenceR, productR, negR, holdsZero, absoluteR, squareR}
 use Rattle.rules.specs.Values.{rootR, smallerR, largerR, unaryRange, multipliedR, binaryRange, rangeOf, sideBelow}
 use Rattle.rules.specs.Values.{sideAbove, choiceOf}
-use Rattle.rules.specs.Tapes.{Tape, runFrom, valueAt, material, rangeFrom, rangeOver, choicesFrom, reads, isIn}
+use Rattle.rules.specs.Tapes.{runFrom, valueAt, material, rangeFrom, rangeOver, choicesFrom, reads, isIn}
 use Rattle.rules.specs.Tapes.{without, onClause, shortFrom, lastOut, shortened, badSlot, badUnused, badConstant}
 use Rattle.rules.specs.Tapes.{badRead, clauseFault, faultFrom, readClauses, countsOk, headCounts, edition, signed4}
 use Rattle.rules.specs.Tapes.{rawIn, rawsFrom, headOk, readTape}

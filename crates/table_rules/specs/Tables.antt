@@ -10,7 +10,7 @@ use lib.ListN.{length, getD, take, drop, replicate}
 use Rattle.rules.specs.Values.{pick, firstFault, when, isNeg, Clause}
 use Rattle.rules.specs.Tapes.{Tape, placeOf, readTape, readList, listOf, rangeOver}
 use Rattle.rules.specs.Marks.{keptTape, marksOver, wholeMarks, markBytes}
-use Rattle.rules.specs.Drawings.{Grid, workLimit, gridFault, Region, region, boxOf, State, state, children, fold}
+use Rattle.rules.specs.Drawings.{Grid, workLimit, gridFault, Region, region, boxOf, State, children, fold}
 use Rattle.rules.specs.Drawings.{fillIn, visit}
 use Rattle.rules.specs.Pictures.{stride, picture, pictureSize}
 use Rattle.program_rules.specs.Program.{gridBytes}
