@@ -66,7 +66,7 @@ pub all-passed : (n : ℕ) (ks : List ℕ) → length ks ≡ n → PassedUpTo n 
 all-passed n ks e p = fresh-order n ks e (rw take-length at (p .below)) (rw take-length at (p .fresh))
 
 -- One that does not pass, or another length: no order.
-not-order : (n : ℕ) (ks : List ℕ) → (isOrder n ks ≡ true → ⊥) → isOrder n ks ≡ false
+pub not-order : (n : ℕ) (ks : List ℕ) → (isOrder n ks ≡ true → ⊥) → isOrder n ks ≡ false
 not-order n ks h = go (isOrder n ks) refl
   where
     go : (b : Bool) → isOrder n ks ≡ b → isOrder n ks ≡ false

@@ -24,24 +24,14 @@ use Rattle.rules.specs.Drawings.{filled, rowHigh, rowsHigh, hidden, alongX, alo
 use Rattle.rules.specs.Drawings.{onSample, visit, sides, walked}
 use Rattle.rules.specs.Pictures.{byteOf, rowBytes, bitsOf, picture, digitsFrom, head, cleanRow, cleanRows}
 use Rattle.rules.specs.Pictures.{bitmapFile, highFirst, heightFile}
-use Rattle.program_rules.specs.Program.{recordLength, gridRecord, tapeAfter, longestInput, inputLimit, recordOk, tooLarge}
+use Rattle.program_rules.specs.Program.{recordLength, gridRecord, gridBytes, tapeAfter, longestInput, inputLimit, recordOk, tooLarge}
 use Rattle.program_rules.specs.Program.{programLines, programFault, programPlace, fileOf, Output, programOf}
 use Rattle.rules.proofs.Lines.{each-line}
 use Rattle.rules.proofs.Reading.{Counts, counts-hold, head-counts-hold}
 use Rattle.rules.proofs.Tiles.{demand-3}
 use Rattle.worked_example.proofs.Example.{gridOf, threeBytes, threeFlat, threeSolid}
 
--- A grid record's bytes, and one with nine fields that differ, read back.
-abbrev pub gridBytes : Grid → List ℕ
-gridBytes g =
-    71
-    ∷ (82
-    ∷ (two (g .width)
-    ++ (two (g .height)
-    ++ (two (g .depth)
-    ++ (four (g .originX)
-    ++ (four (g .originY) ++ (four (g .originZ) ++ (four (g .stepX) ++ (four (g .stepY) ++ four (g .stepZ))))))))))
-
+-- A grid with nine fields that differ, read back from its record.
 abbrev pub nine : Grid
 nine =
     record {
@@ -57,7 +47,7 @@ nine =
     }
 
 pub nine-read : gridRecord (gridBytes nine) ≡ nine
-unfolding gridRecord signed4
+unfolding gridBytes gridRecord signed4
 nine-read = refl
 
 -- The paper's two pictures, and refusals, as rows of one list: an input, and what the paper says of it.
@@ -111,7 +101,7 @@ rows =
     ∷ [])))))))
 
 pub figures : map (λ r. programOf (r .input)) rows ≡ map (λ r. r .said) rows
-unfolding programOf programFault programPlace gridRecord recordOk tooLarge fileOf heightFile highFirst readTape headOk
+unfolding programOf programFault programPlace gridBytes gridRecord recordOk tooLarge fileOf heightFile highFirst readTape headOk
     countsOk headCounts edition rawsFrom rawIn signed4 readClauses faultFrom clauseFault badSlot badUnused badConstant badRead gridFault
     walked sides visit onSample fold children alongZ alongY alongX hidden rowsHigh rowHigh filled raiseRows raiseRow
     boxOf lesser sampleAt shortened lastOut shortFrom onClause isIn without reads choicesFrom rangeOver rangeFrom

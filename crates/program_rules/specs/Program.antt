@@ -5,7 +5,7 @@ use Prim.Native.Nat.{ℕ, suc, _+_, _*_}
 use lib.Dec.{eqb, ltb, leb}
 use lib.ListN.{length, getD, drop}
 use Rattle.rules.specs.Values.{pick, firstFault, when}
-use Rattle.rules.specs.Tapes.{clauseLimit, placeOf, readTape, word, signed4}
+use Rattle.rules.specs.Tapes.{clauseLimit, placeOf, readTape, word, two, four, signed4}
 use Rattle.rules.specs.Drawings.{Grid, solid, gridFault, walked}
 use Rattle.rules.specs.Pictures.{numeral, picture, bitmapFile, heightFile}
 
@@ -27,6 +27,17 @@ gridRecord s =
       stepY = signed4 24 s;
       stepZ = signed4 28 s;
     }
+
+-- A grid as a record.
+unfoldable pub gridBytes : Grid → List ℕ
+gridBytes g =
+    71
+    ∷ (82
+    ∷ (two (g .width)
+    ++ (two (g .height)
+    ++ (two (g .depth)
+    ++ (four (g .originX)
+    ++ (four (g .originY) ++ (four (g .originZ) ++ (four (g .stepX) ++ (four (g .stepY) ++ four (g .stepZ))))))))))
 
 abbrev pub tapeAfter : List ℕ → List ℕ
 tapeAfter s = drop recordLength s

@@ -9,3 +9,4 @@ pub mod Merging
 pub mod Reasons
 pub mod Orders
 pub mod Swept
+pub mod Plates

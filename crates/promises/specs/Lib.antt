@@ -3,3 +3,5 @@ pub mod Faults
 pub mod Sides
 pub mod Figures
 pub mod Says
+pub mod Plates
+pub mod PlateRuns

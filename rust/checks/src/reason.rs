@@ -47,7 +47,8 @@ impl Asked {
         case
     }
 
-    /// What the calls say, or how they differ in it or in the work buffer, full of noise before.
+    /// What the calls say, or how they differ in it or in the work buffer, full of noise before. A refusal must leave
+    /// every byte of it as it was.
     pub fn compare(
         &self,
         noise: &mut Random,
@@ -63,6 +64,9 @@ impl Asked {
         }
         if ours != theirs {
             return Err(format!("explain_pixel: {said:?}, but the work buffer differs: {self:?}"));
+        }
+        if said.answer.number != 0 && ours != lent {
+            return Err(format!("explain_pixel: {said:?}, but the work buffer was changed: {self:?}"));
         }
         Ok(said)
     }

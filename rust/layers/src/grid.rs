@@ -33,8 +33,8 @@ impl Grid {
     }
 
     /// The 64-tiles of a solid on this grid, those in the middle of the picture first, each column of tiles from the top
-    /// down: an order for [`Heightmap::draw_in_order`](crate::Heightmap::draw_in_order), in which no more is counted
-    /// than in the walk's own.
+    /// down: an order for [`Heightmap::draw_in_order`](crate::Heightmap::draw_in_order). Only tiles of a tile's own
+    /// column can hide it, and these come in the walk's order, so that the count is that of the walk's own order.
     ///
     /// ```
     /// use layers::Grid;

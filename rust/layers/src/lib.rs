@@ -3,10 +3,10 @@
 //! A part is a formula, flattened into a [`Tape`] of small steps, each a [`Clause`]. [`Tape::from_text`] does this for
 //! one that is typed, such as `max(root(sqr(x) + sqr(y)) - 12, 4 - z)`. A sample has material exactly if
 //! the formula is below 0 there. A [`Grid`] says where the samples are. A [`Bitmap`] is one layer of the part, a
-//! [`Heightmap`] the part seen from above, if asked for with the [`Slopes`] that a viewer shades by; [`Tape::probe`]
-//! gives the formula at one point, [`Bitmap::reason`] why a pixel is as it is, and [`Tape::union`] makes one part of two.
-//! A [`Sweep`] is what the part covers along a path. Values are whole numbers that count units of 1/65,536: [`fixed`]
-//! makes them.
+//! [`Heightmap`] the part seen from above, if asked for with the [`Slopes`] that a viewer shades by, or, with
+//! [`Heightmap::draw_in_order`], the tiles first that a preview wants; [`Tape::probe`] gives the formula at one point,
+//! [`Bitmap::reason`] why a pixel is as it is, and [`Tape::union`] makes one part of two. A [`Sweep`] is what the part
+//! covers along a path. Values are whole numbers that count units of 1/65,536: [`fixed`] makes them.
 //!
 //! The part x − 2 on three columns and two rows, with samples in the middle of each cell, at x = 0.5, 1.5 and 2.5:
 //!

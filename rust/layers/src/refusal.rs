@@ -225,7 +225,7 @@ mod tests {
         }
     }
 
-    /// The lines that no call of the wrapper meets, met by lending the wrong memory.
+    /// Lines 12 to 14, met by lending the wrong memory: no call of the wrapper meets them, but for the order list's 12.
     #[test]
     fn lent_memory() {
         let tape = crate::Tape::from_list(1, &[1, 0, 0, 0, 0]).unwrap();

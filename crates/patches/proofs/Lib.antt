@@ -1,0 +1,2 @@
+-- What is proved of parts that are set.
+pub mod PatchLaws

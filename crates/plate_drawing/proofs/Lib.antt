@@ -1,0 +1,3 @@
+-- What is proved of parts that are joined.
+pub mod JoinedParts
+pub mod Redrawn
