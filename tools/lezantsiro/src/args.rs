@@ -51,6 +51,8 @@ pub enum Command {
     Verify(VerifyArgs),
     /// Write a folder's masks as an SL1 archive, which PrusaSlicer imports
     Sl1(Sl1Args),
+    /// Print the plain formula that a text with names and the like comes to
+    Expand(ExpandArgs),
 }
 
 #[derive(Args, Debug)]
@@ -215,6 +217,12 @@ pub struct Sl1Args {
     /// Another table of printers
     #[arg(long, value_name = "FILE")]
     pub printers: Option<PathBuf>,
+}
+
+#[derive(Args, Debug)]
+pub struct ExpandArgs {
+    #[command(flatten)]
+    pub part: PartArgs,
 }
 
 fn parse_size(text: &str) -> Result<(u32, u32), String> {

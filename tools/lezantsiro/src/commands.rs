@@ -1,6 +1,8 @@
 //! The commands: each gathers what it needs, has it done, and says what came of it.
 
-use crate::args::{CheckArgs, Cli, Command, HeightsArgs, LayerArgs, ProbeArgs, Sl1Args, StackArgs, VerifyArgs};
+use crate::args::{
+    CheckArgs, Cli, Command, ExpandArgs, HeightsArgs, LayerArgs, ProbeArgs, Sl1Args, StackArgs, VerifyArgs,
+};
 use crate::check;
 use crate::manifest::{Heading, Manifest, Shard};
 use crate::messages::{Stop, grouped, text};
@@ -41,6 +43,7 @@ pub fn run(cli: &Cli) -> Result<Said, Stop> {
         Command::Check(args) => checked(args, cli.quiet),
         Command::Verify(args) => verified(args, cli.quiet),
         Command::Sl1(args) => sl1(args),
+        Command::Expand(args) => expand(args),
     }
 }
 
@@ -81,6 +84,7 @@ fn masks(
     let done = stack::run(&part.tape, manifest, dir, quiet)?;
     let mut lines = vec![headline(&heading, shard, dir, &done)];
     lines.extend(timing(&done));
+    lines.extend(part.remark());
     lines.extend(clamped.map(|words| format!("clamped, as allowed: {words}")));
     lines.extend(off_words(&plate));
     lines.extend(done.remarks());
@@ -152,6 +156,7 @@ fn heights(args: &HeightsArgs) -> Result<Said, Stop> {
     if args.shade {
         lines.push(write_shade(&dir, &drawn, &plate, &z)?);
     }
+    lines.extend(part.remark());
     lines.extend(clamped.map(|words| format!("clamped, as allowed: {words}")));
     lines.extend(off_words(&plate));
     let value = Value::object([
@@ -215,7 +220,8 @@ fn probe(args: &ProbeArgs) -> Result<Said, Stop> {
         Probe::Outside(value) => ("outside", value),
         Probe::Surface => ("surface", 0.0),
     };
-    let lines = vec![format!("{side}, {value}")];
+    let mut lines = vec![format!("{side}, {value}")];
+    lines.extend(part.remark());
     // a whole number of units, as the core has it
     let units = Value::Whole((value * 65_536.0) as i128);
     let value = Value::object([("status", Value::Whole(0)), ("side", text(side)), ("units", units)]);
@@ -273,4 +279,19 @@ fn sl1(args: &Sl1Args) -> Result<Said, Stop> {
         ("layers", Value::Whole(job.layers as i128)),
     ]);
     Ok(Said::well(vec![line], value))
+}
+
+/// The plain formula, as the proved reader has it.
+fn expand(args: &ExpandArgs) -> Result<Said, Stop> {
+    let part = setup::part(&args.part)?;
+    let none = || Stop::Usage(format!("{} is no text, or its plain formula is over a megabyte", part.name));
+    let formula = part.formula().ok_or_else(none)?;
+    let value = Value::object([
+        ("status", Value::Whole(0)),
+        ("formula", text(&formula)),
+        ("clauses", Value::Whole(part.tape.clauses().len() as i128)),
+        ("slots", Value::Whole(part.tape.slots().into())),
+        ("edition", Value::Whole(part.tape.edition().into())),
+    ]);
+    Ok(Said::well(vec![formula], value))
 }

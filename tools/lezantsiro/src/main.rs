@@ -7,6 +7,7 @@ mod check;
 mod clamp;
 mod commands;
 mod draw;
+mod language;
 mod manifest;
 mod messages;
 mod part;
