@@ -59,10 +59,15 @@ impl Heightmap {
     /// # Ok::<(), layers::Refusal>(())
     /// ```
     pub fn draw_with_slopes(tape: &Tape, grid: Grid) -> Result<(Drawn<Heightmap>, Slopes), Refusal> {
+        Heightmap::draw_slopes_with(tape, grid, &mut Work::new())
+    }
+
+    /// Draws heights and slopes as [`draw_with_slopes`](Heightmap::draw_with_slopes), in memory that is there already.
+    pub fn draw_slopes_with(tape: &Tape, grid: Grid, work: &mut Work) -> Result<(Drawn<Heightmap>, Slopes), Refusal> {
         let (width, height) = sizes(grid);
         let mut slopes = vec![0; 3 * width * height];
         let drawn = Heightmap::drawn(grid, |picture| {
-            raw::tile_slopes(tape.as_bytes(), grid, picture, &mut slopes, Work::new().lend())
+            raw::tile_slopes(tape.as_bytes(), grid, picture, &mut slopes, work.lend())
         })?;
         Ok((drawn, Slopes::new(grid.width, grid.height, slopes)))
     }
@@ -154,10 +159,12 @@ mod tests {
     /// z − x − 1: as many slopes as axes are read.
     #[test]
     fn slopes_come_with_the_same_heights_and_count() {
+        let mut work = Work::new();
         for width in [10, 70, 100] {
             let grid = Grid::solid(width, 20, 90).origin(crate::fixed(-5.0), 0, 0);
             let (drawn, slopes) = Heightmap::draw_with_slopes(&stairs(), grid).unwrap();
             assert_eq!(drawn, Heightmap::draw(&stairs(), grid).unwrap());
+            assert_eq!(Heightmap::draw_slopes_with(&stairs(), grid, &mut work), Ok((drawn.clone(), slopes.clone())));
             let expected = drawn.picture.as_slice().iter().map(|&h| if h > 0 { [-65_536, 0, 65_536] } else { [0; 3] });
             assert_eq!(slopes.as_slice(), expected.collect::<Vec<_>>().concat());
             assert_eq!(slopes.slopes_at(0, 0), [0; 3]);

@@ -25,7 +25,6 @@
 //! that the core is lent, and turns its numbers into Rust's types. [`raw`] has the core's own calls, for those who lend
 //! memory themselves.
 
-#![deny(unsafe_code)]
 #![warn(missing_docs)]
 
 #[allow(unsafe_code)]

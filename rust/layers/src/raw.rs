@@ -95,165 +95,147 @@ pub const WORK: usize = 32_768;
 /// The length of the buffer that a text's tape is written to: that of the longest, 1,024 clauses.
 pub const TEXT_TAPE: usize = 10_248;
 
-unsafe extern "C" {
-    fn layers_pack_tape(slots: u32, list: *const i32, list_len: usize, out: *mut u8, out_len: usize) -> Answer;
-    fn layers_unpack_tape(tape: *const u8, tape_len: usize, out: *mut i32, out_len: usize) -> Listed;
-    fn layers_merge_tapes(
-        first: *const u8,
-        first_len: usize,
-        second: *const u8,
-        second_len: usize,
-        out: *mut u8,
-        out_len: usize,
-    ) -> Answer;
-    fn layers_draw_flat(tape: *const u8, tape_len: usize, grid: Grid, picture: *mut u8, picture_len: usize) -> Answer;
-    fn layers_draw_solid(tape: *const u8, tape_len: usize, grid: Grid, picture: *mut u16, picture_len: usize)
-    -> Answer;
-    fn layers_tile_flat(
-        tape: *const u8,
-        tape_len: usize,
-        grid: Grid,
-        picture: *mut u8,
-        picture_len: usize,
-        work: *mut u8,
-        work_len: usize,
-    ) -> Answer;
-    fn layers_tile_solid(
-        tape: *const u8,
-        tape_len: usize,
-        grid: Grid,
-        picture: *mut u16,
-        picture_len: usize,
-        work: *mut u8,
-        work_len: usize,
-    ) -> Answer;
-    fn layers_tile_slopes(
-        tape: *const u8,
-        tape_len: usize,
-        grid: Grid,
-        picture: *mut u16,
-        picture_len: usize,
-        slopes: *mut i32,
-        slopes_len: usize,
-        work: *mut u8,
-        work_len: usize,
-    ) -> Answer;
-    fn layers_write_bitmap(
-        width: u32,
-        height: u32,
-        picture: *const u8,
-        picture_len: usize,
-        out: *mut u8,
-        out_len: usize,
-    ) -> Answer;
-    fn layers_write_heights(
-        width: u32,
-        height: u32,
-        picture: *const u16,
-        picture_len: usize,
-        out: *mut u8,
-        out_len: usize,
-    ) -> Answer;
-    fn layers_read_text(text: *const u8, text_len: usize, out: *mut u8, out_len: usize) -> Answer;
-    fn layers_probe(tape: *const u8, tape_len: usize, point: Point) -> Probed;
+/// Declares the core's calls and wraps each: `name` is `layers_name` of include/layers.h, and a slice goes there as a
+/// pointer and a length. For the tests that compare the header, it also lists them.
+macro_rules! calls {
+    ($(
+        $(#[$about:meta])*
+        fn $name:ident(
+            $($lent:ident: $($given:ident)? $(&[$read:ident])? $(&mut [$written:ident])?),* $(,)?
+        ) -> $answer:ident;
+    )*) => {
+        $(
+            $(#[$about])*
+            pub fn $name($($lent: $($given)? $(&[$read])? $(&mut [$written])?),*) -> $answer {
+                unsafe extern "C" {
+                    #[link_name = concat!("layers_", stringify!($name))]
+                    fn call($($lent: $($given)? $(*const $read, _: usize)? $(*mut $written, _: usize)?),*) -> $answer;
+                }
+                // SAFETY: the call takes any input, reads and writes within the lengths lent, and keeps no pointer, so
+                // a slice's pointer and length are all that it asks for; borrows keep what is written apart from the
+                // rest.
+                unsafe {
+                    call($(
+                        $(std::convert::identity::<$given>($lent))?
+                        $(<[$read]>::as_ptr($lent), $lent.len())?
+                        $(<[$written]>::as_mut_ptr($lent), $lent.len())?
+                    ),*)
+                }
+            }
+        )*
+
+        /// What is returned, the name, and what is lent, with the words of C about Rust's types.
+        #[cfg(test)]
+        const CALLS: &[(&str, &str, &[&str])] = &[$((
+            stringify!($answer),
+            concat!("layers_", stringify!($name)),
+            &[$(
+                $(concat!(stringify!($given), " ", stringify!($lent)))?
+                $(concat!("const ", stringify!($read), " *", stringify!($lent), ", usize ", stringify!($lent), "_len"))?
+                $(concat!(stringify!($written), " *", stringify!($lent), ", usize ", stringify!($lent), "_len"))?
+            ),*],
+        )),*];
+    };
 }
 
-// SAFETY, of every call below: it takes any input, reads and writes within the lengths lent, and keeps no pointer, so a
-// slice's pointer and length are all that it asks for; borrows keep what is written apart from the rest.
+calls! {
+    /// Packs a list, five numbers to a clause, into a tape of 8 + 10 bytes a clause.
+    fn pack_tape(slots: u32, list: &[i32], out: &mut [u8]) -> Answer;
 
-/// Packs a list, five numbers to a clause, into a tape of 8 + 10 bytes a clause.
-pub fn pack_tape(slots: u32, list: &[i32], out: &mut [u8]) -> Answer {
-    unsafe { layers_pack_tape(slots, list.as_ptr(), list.len(), out.as_mut_ptr(), out.len()) }
+    /// Unpacks a tape into a list, five numbers to a clause.
+    fn unpack_tape(tape: &[u8], out: &mut [i32]) -> Listed;
+
+    /// Two tapes into one of 8 + 10 bytes for each clause of both and for a minimum, the smaller of the two values at
+    /// every sample. The place is the clause in whichever tape failed.
+    fn merge_tapes(first: &[u8], second: &[u8], out: &mut [u8]) -> Answer;
+
+    /// The tape of a formula that is written as text, to the front of [`TEXT_TAPE`] bytes; its head tells its length,
+    /// and the bytes behind it stay.
+    fn read_text(text: &[u8], out: &mut [u8]) -> Answer;
+
+    /// The flat drawing in full: `width` / 8 bytes, rounded up, a row.
+    fn draw_flat(tape: &[u8], grid: Grid, picture: &mut [u8]) -> Answer;
+
+    /// The solid drawing in full: one height a pixel.
+    fn draw_solid(tape: &[u8], grid: Grid, picture: &mut [u16]) -> Answer;
+
+    /// The same picture as [`draw_flat`]'s, drawn by tiles, with at least [`WORK`] bytes to work in.
+    fn tile_flat(tape: &[u8], grid: Grid, picture: &mut [u8], work: &mut [u8]) -> Answer;
+
+    /// The same picture as [`draw_solid`]'s, drawn by tiles, with at least [`WORK`] bytes to work in.
+    fn tile_solid(tape: &[u8], grid: Grid, picture: &mut [u16], work: &mut [u8]) -> Answer;
+
+    /// The picture and the count of [`tile_solid`], and three slopes a pixel: how much the formula grows along x, y and
+    /// z at the visible sample, in units of 1/65,536 for each 1; three zeros where the height is 0.
+    fn tile_slopes(tape: &[u8], grid: Grid, picture: &mut [u16], slopes: &mut [i32], work: &mut [u8]) -> Answer;
+
+    /// The Netpbm bitmap file of a flat picture.
+    fn write_bitmap(width: u32, height: u32, picture: &[u8], out: &mut [u8]) -> Answer;
+
+    /// The Netpbm grey file of a solid's heights.
+    fn write_heights(width: u32, height: u32, picture: &[u16], out: &mut [u8]) -> Answer;
+
+    /// The formula at a point, each coordinate rounded down to a unit.
+    fn probe(tape: &[u8], point: Point) -> Probed;
 }
 
-/// Unpacks a tape into a list, five numbers to a clause.
-pub fn unpack_tape(tape: &[u8], out: &mut [i32]) -> Listed {
-    unsafe { layers_unpack_tape(tape.as_ptr(), tape.len(), out.as_mut_ptr(), out.len()) }
-}
+/// The header says the same, in the same order.
+#[cfg(test)]
+mod tests {
+    use super::*;
 
-/// Two tapes into one of 8 + 10 bytes for each clause of both and for a minimum, the smaller of the two values at every
-/// sample. The place is the clause in whichever tape failed.
-pub fn merge_tapes(first: &[u8], second: &[u8], out: &mut [u8]) -> Answer {
-    unsafe {
-        layers_merge_tapes(first.as_ptr(), first.len(), second.as_ptr(), second.len(), out.as_mut_ptr(), out.len())
+    const HEADER: &str = include_str!("../../../include/layers.h");
+
+    /// The header without comments and without lines for the preprocessor, its words one space apart.
+    fn code() -> String {
+        let parts = HEADER.split("/*").map(|part| part.split_once("*/").map_or(part, |(_, code)| code));
+        let lines = parts.flat_map(str::lines).filter(|line| !line.starts_with('#'));
+        lines.flat_map(str::split_whitespace).collect::<Vec<_>>().join(" ")
     }
-}
 
-/// The flat drawing in full: `width` / 8 bytes, rounded up, a row.
-pub fn draw_flat(tape: &[u8], grid: Grid, picture: &mut [u8]) -> Answer {
-    unsafe { layers_draw_flat(tape.as_ptr(), tape.len(), grid, picture.as_mut_ptr(), picture.len()) }
-}
-
-/// The solid drawing in full: one height a pixel.
-pub fn draw_solid(tape: &[u8], grid: Grid, picture: &mut [u16]) -> Answer {
-    unsafe { layers_draw_solid(tape.as_ptr(), tape.len(), grid, picture.as_mut_ptr(), picture.len()) }
-}
-
-/// The same picture as [`draw_flat`]'s, drawn by tiles, with at least [`WORK`] bytes to work in.
-pub fn tile_flat(tape: &[u8], grid: Grid, picture: &mut [u8], work: &mut [u8]) -> Answer {
-    unsafe {
-        layers_tile_flat(
-            tape.as_ptr(),
-            tape.len(),
-            grid,
-            picture.as_mut_ptr(),
-            picture.len(),
-            work.as_mut_ptr(),
-            work.len(),
-        )
+    /// Words with Rust's types as C has them.
+    fn in_c(words: &str) -> String {
+        let word = |word: &str| match word {
+            "usize" => String::from("size_t"),
+            "f64" => String::from("double"),
+            "u8" | "u16" | "u32" | "u64" => format!("uint{}_t", &word[1..]),
+            "i32" => String::from("int32_t"),
+            record if record.starts_with(char::is_uppercase) => format!("Layers{record}"),
+            other => String::from(other),
+        };
+        words.split(' ').map(word).collect::<Vec<_>>().join(" ")
     }
-}
 
-/// The same picture as [`draw_solid`]'s, drawn by tiles, with at least [`WORK`] bytes to work in.
-pub fn tile_solid(tape: &[u8], grid: Grid, picture: &mut [u16], work: &mut [u8]) -> Answer {
-    unsafe {
-        layers_tile_solid(
-            tape.as_ptr(),
-            tape.len(),
-            grid,
-            picture.as_mut_ptr(),
-            picture.len(),
-            work.as_mut_ptr(),
-            work.len(),
-        )
+    #[test]
+    fn calls() {
+        let code = code();
+        let listed = code.split_inclusive(';').map(str::trim).filter(|statement| statement.contains('('));
+        let calls =
+            CALLS.iter().map(|(answer, name, lent)| format!("{} {name}({});", in_c(answer), in_c(&lent.join(", "))));
+        assert_eq!(listed.collect::<Vec<_>>(), calls.collect::<Vec<_>>());
     }
-}
 
-/// The picture and the count of [`tile_solid`], and three slopes a pixel: how much the formula grows along x, y and z at
-/// the visible sample, in units of 1/65,536 for each 1; three zeros where the height is 0.
-pub fn tile_slopes(tape: &[u8], grid: Grid, picture: &mut [u16], slopes: &mut [i32], work: &mut [u8]) -> Answer {
-    unsafe {
-        layers_tile_slopes(
-            tape.as_ptr(),
-            tape.len(),
-            grid,
-            picture.as_mut_ptr(),
-            picture.len(),
-            slopes.as_mut_ptr(),
-            slopes.len(),
-            work.as_mut_ptr(),
-            work.len(),
-        )
+    #[test]
+    fn records() {
+        let code = code();
+        let listed = code.split("typedef struct { ").skip(1).map(|rest| {
+            let (fields, behind) = rest.split_once(" }").expect("an end");
+            format!("{fields}{}", behind.split(';').next().unwrap_or_default())
+        });
+        let structs = include_str!("raw.rs").split("\npub struct ").skip(1).map(|rest| {
+            let (name, rest) = rest.split_once(" {").expect("a name and fields");
+            let fields =
+                rest.lines().take_while(|line| *line != "}").filter_map(|line| line.trim().strip_prefix("pub "));
+            let fields = fields.map(|field| field.trim_end_matches(',').split_once(": ").expect("a field and a type"));
+            fields.map(|(field, kind)| in_c(&format!("{kind} {field}; "))).collect::<String>() + &in_c(name)
+        });
+        assert_eq!(listed.collect::<Vec<_>>(), structs.collect::<Vec<_>>());
     }
-}
 
-/// The Netpbm bitmap file of a flat picture.
-pub fn write_bitmap(width: u32, height: u32, picture: &[u8], out: &mut [u8]) -> Answer {
-    unsafe { layers_write_bitmap(width, height, picture.as_ptr(), picture.len(), out.as_mut_ptr(), out.len()) }
-}
-
-/// The Netpbm grey file of a solid's heights.
-pub fn write_heights(width: u32, height: u32, picture: &[u16], out: &mut [u8]) -> Answer {
-    unsafe { layers_write_heights(width, height, picture.as_ptr(), picture.len(), out.as_mut_ptr(), out.len()) }
-}
-
-/// The tape of a formula that is written as text, to the front of [`TEXT_TAPE`] bytes; its head tells its length, and
-/// the bytes behind it stay.
-pub fn read_text(text: &[u8], out: &mut [u8]) -> Answer {
-    unsafe { layers_read_text(text.as_ptr(), text.len(), out.as_mut_ptr(), out.len()) }
-}
-
-/// The formula at a point, each coordinate rounded down to a unit.
-pub fn probe(tape: &[u8], point: Point) -> Probed {
-    unsafe { layers_probe(tape.as_ptr(), tape.len(), point) }
+    #[test]
+    fn lengths() {
+        let defined = HEADER.lines().filter_map(|line| line.strip_prefix("#define LAYERS_")?.split_once(' '));
+        let lengths: Vec<(&str, &str)> = defined.filter(|(_, value)| value.len() > 1).collect();
+        assert_eq!(lengths, [("WORK", &*WORK.to_string()), ("TEXT_TAPE", &*TEXT_TAPE.to_string())]);
+    }
 }

@@ -37,6 +37,7 @@ const LIST_NUMBERS: usize = 5;
 ///     Clause::subtract(0, 0, 1),
 /// ];
 /// let tape = Tape::from_clauses(2, &disc)?;
+/// assert_eq!((tape.clause_count(), tape.slots()), (8, 2));
 /// assert_eq!(tape.clauses(), disc);
 ///
 /// let mut bytes = tape.as_bytes().to_vec();
@@ -99,11 +100,6 @@ impl Tape {
         HEAD_BYTES + CLAUSE_BYTES * clauses
     }
 
-    /// The clauses that the head counts.
-    pub(crate) fn clause_count(&self) -> usize {
-        counted(&self.bytes)
-    }
-
     /// The list, five numbers to a clause.
     pub fn to_list(&self) -> Vec<i32> {
         unpacked(&self.bytes).expect("the tape was accepted")
@@ -114,7 +110,12 @@ impl Tape {
         self.to_list().chunks(LIST_NUMBERS).map(Clause::from_accepted).collect()
     }
 
-    /// The slot count.
+    /// The clause count. It stands in the head, so nothing is unpacked for it.
+    pub fn clause_count(&self) -> usize {
+        counted(&self.bytes)
+    }
+
+    /// The slot count, of the head too.
     pub fn slots(&self) -> u8 {
         self.bytes[3]
     }
@@ -182,7 +183,7 @@ mod tests {
         assert_eq!(tape.as_ref(), FIGURE);
         assert_eq!(Tape::try_from(&FIGURE[..]).unwrap(), tape);
         assert_eq!(Tape::try_from(&FIGURE[1..]), Err(Refusal::WrongHead));
-        assert_eq!(tape.slots(), 2);
+        assert_eq!((tape.slots(), tape.clause_count()), (2, 3));
         assert_eq!(tape.to_list(), list);
         assert_eq!(tape.clauses(), clauses);
         assert_eq!(Tape::from_list(2, &list).unwrap(), tape);
@@ -242,7 +243,7 @@ mod tests {
     fn counts_pass_up_to_their_limits() {
         let clauses = [Clause::x(0); MAX_CLAUSES + 1];
         let tape = Tape::from_clauses(MAX_SLOTS, &clauses[1..]).unwrap();
-        assert_eq!((tape.edition(), tape.slots(), tape.clauses().len()), (2, 128, 6144));
+        assert_eq!((tape.edition(), tape.slots(), tape.clause_count(), tape.clauses().len()), (2, 128, 6144, 6144));
         assert_eq!(Tape::from_bytes(tape.as_bytes()), Ok(tape));
         assert_eq!(Tape::from_clauses(MAX_SLOTS, &clauses), Err(Refusal::CountOutOfRange));
         assert_eq!(Tape::from_clauses(MAX_SLOTS + 1, &clauses[1..]), Err(Refusal::CountOutOfRange));
@@ -257,7 +258,7 @@ mod tests {
         let (slots, count) = (FIRST_EDITION_SLOTS, FIRST_EDITION_CLAUSES);
         for (slots, count, edition) in [(slots, count, 1), (slots + 1, count, 2), (slots, count + 1, 2), (1, 1, 1)] {
             let tape = Tape::from_clauses(slots, &clauses[..count]).unwrap();
-            assert_eq!((tape.edition(), tape.slots(), tape.clauses().len()), (edition, slots, count));
+            assert_eq!((tape.edition(), tape.slots(), tape.clause_count()), (edition, slots, count));
             assert_eq!(Tape::from_bytes(tape.as_bytes()), Ok(tape.clone()));
             let mut other = tape.as_bytes().to_vec();
             other[2] = 3 - edition;

@@ -68,7 +68,7 @@ impl Tape {
     ///
     /// let (left, top) = (Tape::from_text("x - 2")?, Tape::from_text("y - 1")?);
     /// let corner = left.union(&top)?;
-    /// assert_eq!((corner.slots(), corner.clauses().len()), (4, 7));
+    /// assert_eq!((corner.slots(), corner.clause_count()), (4, 7));
     /// let drawn = Bitmap::draw(&corner, Grid::flat(3, 2))?;
     /// assert_eq!((drawn.picture.as_bytes(), drawn.count), (&[0xE0, 0xC0][..], 56));
     /// # Ok::<(), Box<dyn std::error::Error>>(())
@@ -87,7 +87,7 @@ impl Tape {
     ///     Tape::from_text(&format!("root(sqr({at}) + sqr(y)) - 3")).unwrap()
     /// });
     /// let row = Tape::union_all(&posts)?;
-    /// assert_eq!(row.clauses().len(), posts.iter().map(|post| post.clauses().len() + 1).sum::<usize>() - 1);
+    /// assert_eq!(row.clause_count(), posts.iter().map(|post| post.clause_count() + 1).sum::<usize>() - 1);
     /// assert_eq!(row.probe(11.0, 0.0, 0.0)?, Probe::Inside(-2.0));
     /// assert_eq!(row.probe(5.0, 0.0, 0.0)?, Probe::Outside(2.0));
     ///
@@ -159,7 +159,7 @@ mod tests {
     #[test]
     fn too_large() {
         let most = constants(MAX_SLOTS - 1, MAX_CLAUSES - 2, 5);
-        assert_eq!(most.union(&constants(1, 1, 6)).unwrap().clauses().len(), MAX_CLAUSES);
+        assert_eq!(most.union(&constants(1, 1, 6)).unwrap().clause_count(), MAX_CLAUSES);
         let error = most.union(&constants(1, 2, 6)).unwrap_err();
         assert_eq!((error.clauses(), error.slots()), (MAX_CLAUSES + 1, 128));
         let error = most.union(&constants(2, 1, 6)).unwrap_err();
@@ -173,7 +173,7 @@ mod tests {
         let parts: Vec<Tape> = (1..=9).map(|i| constants(1, 1, if i == 6 { -3 } else { 65_536 * i })).collect();
         for n in 1..=9 {
             let union = Tape::union_all(&parts[..n]).unwrap();
-            assert_eq!((usize::from(union.slots()), union.clauses().len()), (n, 2 * n - 1));
+            assert_eq!((usize::from(union.slots()), union.clause_count()), (n, 2 * n - 1));
             let least = if n < 6 { Probe::Outside(1.0) } else { Probe::Inside(-3.0 / 65_536.0) };
             assert_eq!(union.probe(0.0, 0.0, 0.0), Ok(least));
         }

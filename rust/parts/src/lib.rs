@@ -68,7 +68,7 @@ fn cut(low: [i32; 3], sizes: [i32; 3], n: u32) -> Grid {
 
 impl Part {
     pub fn clauses(&self) -> usize {
-        self.tape.clauses().len()
+        self.tape.clause_count()
     }
 
     /// The program's inputs that draw this part, with their file names.

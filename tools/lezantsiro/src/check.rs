@@ -43,9 +43,9 @@ pub fn check(
         Some(levels) => looks(&tape, plate, levels, quiet)?,
         None => (Vec::new(), Vec::new()),
     };
-    let drawn_clauses = tape.clauses().len();
+    let drawn_clauses = tape.clause_count();
     Ok(Report {
-        clauses: part.tape.clauses().len(),
+        clauses: part.tape.clause_count(),
         slots: part.tape.slots(),
         edition: part.tape.edition(),
         drawn_clauses,

@@ -314,7 +314,7 @@ mod tests {
         let text =
             b"# a disc \xC3\xA9\n# solid 30 20 4 from -3 -2 0 step 0.2 0.2 0.05\r\nroot(sqr(x)\n + sqr(y)) - 1\n";
         let part = read("disc.txt", text).expect("a part");
-        assert_eq!(part.tape.clauses().len(), 8);
+        assert_eq!(part.tape.clause_count(), 8);
         let formula = &part.text.as_ref().expect("a text").formula;
         assert_eq!(formula.len(), text.len());
         assert_eq!(formula.find("root"), Some(60));

@@ -178,7 +178,7 @@ mod tests {
         let tape = |slots: u8, count: usize| Tape::from_clauses(slots, &full[..count]).expect("a tape");
         assert_eq!(scaled_tape(&tape(1, 2049), divisors), Err(Refusal::CountOutOfRange));
         assert_eq!(scaled_tape(&tape(layers::MAX_SLOTS, 1), divisors), Err(Refusal::CountOutOfRange));
-        assert_eq!(scaled_tape(&tape(1, 2048), divisors).expect("room").clauses().len(), 6144);
+        assert_eq!(scaled_tape(&tape(1, 2048), divisors).expect("room").clause_count(), 6144);
         assert_eq!(scaled_tape(&tape(1, 6144), [None; 3]).expect("as it is"), tape(1, 6144));
     }
 

@@ -52,7 +52,7 @@ fn column(
         }
         let grid = placed(plate, z, block, begin, layers).ok_or(Refusal::SampleOutOfRange)?;
         let (drawn, piece) = match slopes {
-            true => Heightmap::draw_with_slopes(tape, grid).map(|(drawn, slopes)| (drawn, Some(slopes)))?,
+            true => Heightmap::draw_slopes_with(tape, grid, work).map(|(drawn, slopes)| (drawn, Some(slopes)))?,
             false => (Heightmap::draw_with(tape, grid, work)?, None),
         };
         found.count += drawn.count;

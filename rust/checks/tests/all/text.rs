@@ -237,7 +237,7 @@ fn random_trees_are_read_back() {
         let read = text::tree(&reading.text).expect("an allowed text");
         assert_eq!(read.ordered(), tree.ordered(), "{text}");
         if said.number == 0 {
-            let tape = self::tape(&text);
+            let tape = tape(&text);
             assert_eq!(layers::Tape::from_text(&text).expect("a formula").as_bytes(), tape.to_bytes());
             for _ in 0..3 {
                 let sample = [0; 3].map(|_| coordinate(&mut r));

@@ -56,7 +56,7 @@ fn tangled_formulas_keep_their_values_in_few_slots() {
         let roomy = compile(&formula, result, MAX_SLOTS).unwrap();
         let tapes = (1..roomy.slots()).filter_map(|slots| compile(&formula, result, slots).ok());
         for tape in tapes.chain([roomy.clone()]) {
-            let (count, least) = (tape.clauses().len(), roomy.clauses().len());
+            let (count, least) = (tape.clause_count(), roomy.clause_count());
             assert!(count > least || (count == least && tape == roomy));
             for sample in [0; 5].map(|_| random.sample(100 << 16)) {
                 assert_eq!(run(&tape, sample), value_at(&formula, result, sample));
@@ -83,7 +83,7 @@ fn the_chart_needs_edition_2() {
     assert_eq!(chart.compiled(FIRST_EDITION_SLOTS), Err(TooBig::Slots));
     let tape = chart.part().tape;
     assert_eq!(tape.edition(), 2);
-    assert!(tape.slots() >= 80 && (5900..=6144).contains(&tape.clauses().len()));
+    assert!(tape.slots() >= 80 && (5900..=6144).contains(&tape.clause_count()));
 }
 
 /// x + 1 and x − 1 multiplied, and so on with 2, 3 ...: both factors wait for each other.
@@ -106,7 +106,7 @@ fn what_does_not_fit_is_turned_down() {
     assert!(compile(&formula, result, 4).is_ok());
     // One load of x, five clauses a product.
     let (formula, result) = products(1228);
-    assert_eq!(compile(&formula, result, MAX_SLOTS).unwrap().clauses().len(), 6141);
+    assert_eq!(compile(&formula, result, MAX_SLOTS).unwrap().clause_count(), 6141);
     let (formula, result) = products(1229);
     assert_eq!(compile(&formula, result, MAX_SLOTS), Err(TooBig::Clauses(6146)));
 }
