@@ -53,6 +53,14 @@ pub enum Command {
     Sl1(Sl1Args),
     /// Print the plain formula that a text with names and the like comes to
     Expand(ExpandArgs),
+    /// Make one part of several, where any of them has material
+    Join(JoinArgs),
+    /// Compare the masks of two folders, pixel by pixel
+    Diff(DiffArgs),
+    /// Say where clauses are run, layer by layer
+    Time(TimeArgs),
+    /// Make a tape of a .vm file, as Fidget and mpr have them
+    Import(ImportArgs),
 }
 
 #[derive(Args, Debug)]
@@ -223,6 +231,52 @@ pub struct Sl1Args {
 pub struct ExpandArgs {
     #[command(flatten)]
     pub part: PartArgs,
+}
+
+#[derive(Args, Debug)]
+pub struct JoinArgs {
+    /// The parts: two or more
+    #[arg(value_name = "PART", num_args = 2.., required = true)]
+    pub parts: Vec<PathBuf>,
+    /// The tape of the whole
+    #[arg(long, value_name = "FILE", default_value = "out/join.tape")]
+    pub out: PathBuf,
+}
+
+#[derive(Args, Debug)]
+pub struct DiffArgs {
+    /// A folder of masks
+    pub first: PathBuf,
+    /// Another one, of the same plate
+    pub second: PathBuf,
+    /// The picture of where they differ
+    #[arg(long, value_name = "FILE", default_value = "out/diff.png")]
+    pub out: PathBuf,
+}
+
+#[derive(Args, Debug)]
+pub struct TimeArgs {
+    #[command(flatten)]
+    pub part: PartArgs,
+    #[command(flatten)]
+    pub levels: LevelArgs,
+    #[command(flatten)]
+    pub plate: PlateArgs,
+    /// Write the chart as a picture too
+    #[arg(long, value_name = "FILE")]
+    pub png: Option<PathBuf>,
+}
+
+#[derive(Args, Debug)]
+pub struct ImportArgs {
+    /// A .vm file: a line a clause
+    pub file: PathBuf,
+    /// How many mm one of the model is
+    #[arg(long, value_name = "MM", default_value = "1", value_parser = parse_positive)]
+    pub scale: Fraction,
+    /// The tape [default: out/NAME.tape]
+    #[arg(long, value_name = "FILE")]
+    pub out: Option<PathBuf>,
 }
 
 fn parse_size(text: &str) -> Result<(u32, u32), String> {

@@ -12,7 +12,7 @@ use crate::plate::{Levels, Plate, Samples, samples};
 use crate::relief::{Relief, relief};
 use crate::stack::{self, Done, no_room};
 use crate::units::Fraction;
-use crate::{archive, printers, setup, verify};
+use crate::{archive, cost, diff, import, join, printers, setup, verify};
 use files::json::Value;
 use files::mask::{Format, Mask, Material, Pixels, Style, encode};
 use files::whole;
@@ -29,7 +29,7 @@ pub struct Said {
 }
 
 impl Said {
-    fn well(lines: Vec<String>, value: Value) -> Said {
+    pub fn well(lines: Vec<String>, value: Value) -> Said {
         Said { lines, value, stop: None }
     }
 }
@@ -44,6 +44,10 @@ pub fn run(cli: &Cli) -> Result<Said, Stop> {
         Command::Verify(args) => verified(args, cli.quiet),
         Command::Sl1(args) => sl1(args),
         Command::Expand(args) => expand(args),
+        Command::Join(args) => join::run(args),
+        Command::Diff(args) => diff::run(args),
+        Command::Time(args) => cost::run(args, cli.quiet),
+        Command::Import(args) => import::run(args),
     }
 }
 

@@ -84,7 +84,9 @@ impl Reader {
         if self.here().is(b'-') {
             return Err(Wrong::new(
                 self.here().at,
-                format_args!("does this `-` go on with `{name}`, or begin the formula? End the line before with it, or put a bracket around what it begins"),
+                format_args!(
+                    "does this `-` go on with `{name}`, or begin the formula? End the line before with it, or put a bracket around what it begins"
+                ),
             ));
         }
         if !self.here().first {
@@ -157,7 +159,10 @@ impl Reader {
                 let mut inside = self.bracket(token.at)?;
                 match (inside.pop(), inside.is_empty()) {
                     (Some(tree), true) => Ok(tree),
-                    _ => Err(Wrong::new(token.at, "this bracket has a `,` in it: min and max of several are written min( , )")),
+                    _ => Err(Wrong::new(
+                        token.at,
+                        "this bracket has a `,` in it: min and max of several are written min( , )",
+                    )),
                 }
             }
             Word::Name(name) => self.named(&name, token.at),
@@ -191,7 +196,9 @@ impl Reader {
         let hint = match name.to_ascii_lowercase().as_str() {
             "square" | "sq" => "; the square is written sqr(a) or a^2".to_string(),
             "length" | "len" | "norm" => "; a length is written root(sqr(x) + sqr(y))".to_string(),
-            "pi" | "tan" | "atan" | "exp" | "log" | "pow" => "; of angles there are sin and cos of a number of degrees".into(),
+            "pi" | "tan" | "atan" | "exp" | "log" | "pow" => {
+                "; of angles there are sin and cos of a number of degrees".into()
+            }
             lower if meaning(lower).is_some() => format!("; it is written {lower}"),
             _ if self.tokens[self.next + 1].is(b'(') => {
                 "; functions are abs, sqr, root, min, max, sin, cos".to_string()

@@ -92,7 +92,9 @@ fn number(digits: &str, at: usize) -> Result<f64, Wrong> {
 fn strange(text: &str, at: usize) -> Wrong {
     let words = match text[at..].chars().next() {
         Some('\u{feff}') => "the text begins with a byte order mark: save it without one".to_string(),
-        Some(';' | ':') => "no formula has this sign; parts of min and max are parted by `,`, names given one a line".into(),
+        Some(';' | ':') => {
+            "no formula has this sign; parts of min and max are parted by `,`, names given one a line".into()
+        }
         Some('[' | '{' | ']' | '}') => "brackets are written ( )".to_string(),
         Some(c) if c.is_control() => format!("no formula has the character {}", c.escape_unicode()),
         Some(c) => format!("no formula has `{c}`"),
@@ -108,7 +110,8 @@ mod tests {
     #[test]
     fn words_are_told_apart() {
         let found = tokens("r2 = .5*x # half\n+12.25").expect("words");
-        let words: Vec<(usize, Word, bool)> = found.into_iter().map(|token| (token.at, token.word, token.first)).collect();
+        let words: Vec<(usize, Word, bool)> =
+            found.into_iter().map(|token| (token.at, token.word, token.first)).collect();
         let sign = |sign: u8| Word::Sign(sign);
         assert_eq!(
             words,

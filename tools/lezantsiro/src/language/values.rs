@@ -29,7 +29,10 @@ pub fn number(tree: &Tree) -> Result<f64, Wrong> {
         Kind::Number(number) => *number,
         Kind::Axis(axis) => {
             let axis = ["x", "y", "z"][*axis];
-            return Err(Wrong::new(tree.at, format_args!("sin and cos are of numbers alone, and this has {axis} in it")));
+            return Err(Wrong::new(
+                tree.at,
+                format_args!("sin and cos are of numbers alone, and this has {axis} in it"),
+            ));
         }
         Kind::Negate(a) => -of(a)?,
         Kind::Unary(Unary::Absolute, a) => of(a)?.abs(),
@@ -154,7 +157,10 @@ mod tests {
     #[test]
     fn angles_are_degrees_and_exact_at_quarters() {
         let of = |text: &str| number(&read(text).expect(text));
-        assert_eq!([of("sin(90)"), of("cos(90)"), of("cos(180)"), of("sin(-90)")], [Ok(1.0), Ok(0.0), Ok(-1.0), Ok(-1.0)]);
+        assert_eq!(
+            [of("sin(90)"), of("cos(90)"), of("cos(180)"), of("sin(-90)")],
+            [Ok(1.0), Ok(0.0), Ok(-1.0), Ok(-1.0)]
+        );
         assert!((of("sin(30)").expect("a number") - 0.5).abs() < 1e-12);
         assert!((of("cos(360/7*2)").expect("a number") + 0.222_520_933_956).abs() < 1e-9);
         assert_eq!(of("max(1, 3, 2) + min(4, 2^3)^2/sqrt(16) - abs(-1)"), Ok(6.0));
@@ -164,6 +170,9 @@ mod tests {
 
     #[test]
     fn units_are_those_of_the_nearest_four_decimals() {
-        assert_eq!([0.3, -0.3, 0.5, 0.00004, 0.00005, 40_000.0].map(units), [19_660, -19_660, 32_768, 0, 6, 2_147_483_641]);
+        assert_eq!(
+            [0.3, -0.3, 0.5, 0.00004, 0.00005, 40_000.0].map(units),
+            [19_660, -19_660, 32_768, 0, 6, 2_147_483_641]
+        );
     }
 }
