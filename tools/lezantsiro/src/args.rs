@@ -59,6 +59,8 @@ pub enum Command {
     Diff(DiffArgs),
     /// Say where clauses are run, layer by layer
     Time(TimeArgs),
+    /// Write a folder's masks as one page to look at
+    View(ViewArgs),
     /// Make a tape of a .vm file, as Fidget and mpr have them
     Import(ImportArgs),
 }
@@ -265,6 +267,18 @@ pub struct TimeArgs {
     /// Write the chart as a picture too
     #[arg(long, value_name = "FILE")]
     pub png: Option<PathBuf>,
+}
+
+#[derive(Args, Debug)]
+pub struct ViewArgs {
+    /// The folder of the masks
+    pub dir: PathBuf,
+    /// The page [default: DIR/view.html]
+    #[arg(long, value_name = "FILE")]
+    pub out: Option<PathBuf>,
+    /// The most bytes of masks in it; beyond, every n-th layer is taken
+    #[arg(long, value_name = "BYTES", hide = true)]
+    pub largest: Option<usize>,
 }
 
 #[derive(Args, Debug)]

@@ -26,6 +26,7 @@ mod spans;
 mod stack;
 mod units;
 mod verify;
+mod view;
 
 use args::Cli;
 use clap::Parser;
