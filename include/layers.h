@@ -2,8 +2,8 @@
  * Lezantsiro: the layer core's calls for C.
  *
  * A buffer is a pointer and its length in elements, and stays the caller's: a call keeps no pointer, allocates nothing
- * and uses at most 256 KiB of stack, whatever the tape: the drawings by tiles up to that, every other call less than 64
- * KiB.
+ * and uses at most 256 KiB of stack, whatever the tape: the calls with a work buffer up to that, every other call less
+ * than 64 KiB.
  *
  * The calls are proved in a language that knows four things of every buffer of a call. C knows none of them, so the
  * caller sees to each, also where the length is 0 and where the call is refused; else nothing that is proved holds:
@@ -39,6 +39,7 @@
  *   19 text: more than 1,024 clauses or 64 slots needed
  *   20 probe: a coordinate not a number, infinite, or above 32,767 in magnitude
  *   21 merging: a result of more than 6,144 clauses, the minimum counted, or of more than 128 slots
+ *   23 reason: a pixel outside the grid
  */
 #ifndef LAYERS_H
 #define LAYERS_H
@@ -83,6 +84,19 @@ typedef struct {
     uint8_t side;
     double value;
 } LayersProbed;
+
+/*
+ * The answer for a pixel, and where the walk stopped for it: the side of the region, 64, 8 or 1, also where an edge of
+ * the picture cuts it off; both ends of the formula's range there, at side 1 the value twice; and how many clauses the
+ * region's tape had. All are 0 where the call is refused.
+ */
+typedef struct {
+    LayersAnswer answer;
+    uint32_t side;
+    int32_t low;
+    int32_t high;
+    uint32_t clauses;
+} LayersReason;
 
 /*
  * Sample i on an axis is origin + i * step + step / 2, rounded down: each pixel stands for the middle of its cell. A
@@ -143,6 +157,13 @@ LayersAnswer layers_tile_solid(const uint8_t *tape, size_t tape_len, LayersGrid 
  */
 LayersAnswer layers_tile_slopes(const uint8_t *tape, size_t tape_len, LayersGrid grid, uint16_t *picture, size_t picture_len,
                                 int32_t *slopes, size_t slopes_len, uint8_t *work, size_t work_len);
+
+/*
+ * Why the pixel in column x and row y of layers_tile_flat's picture has material or has none. Of the region that decided
+ * it, high is below 0 or low is not. No picture is lent; the count is 0.
+ */
+LayersReason layers_explain_pixel(const uint8_t *tape, size_t tape_len, LayersGrid grid, uint32_t x, uint32_t y,
+                                  uint8_t *work, size_t work_len);
 
 /* Netpbm files. */
 LayersAnswer layers_write_bitmap(uint32_t width, uint32_t height, const uint8_t *picture, size_t picture_len, uint8_t *out,

@@ -4,8 +4,8 @@
 //! one that is typed, such as `max(root(sqr(x) + sqr(y)) - 12, 4 - z)`. A sample has material exactly if
 //! the formula is below 0 there. A [`Grid`] says where the samples are. A [`Bitmap`] is one layer of the part, a
 //! [`Heightmap`] the part seen from above, if asked for with the [`Slopes`] that a viewer shades by; [`Tape::probe`]
-//! gives the formula at one point, and [`Tape::union`] makes one part of two. Values are whole numbers that count units
-//! of 1/65,536: [`fixed`] makes them.
+//! gives the formula at one point, [`Bitmap::reason`] why a pixel is as it is, and [`Tape::union`] makes one part of two.
+//! Values are whole numbers that count units of 1/65,536: [`fixed`] makes them.
 //!
 //! The part x − 2 on three columns and two rows, with samples in the middle of each cell, at x = 0.5, 1.5 and 2.5:
 //!
@@ -39,6 +39,7 @@ mod heightmap;
 mod lend;
 mod netpbm;
 mod probe;
+mod reason;
 mod refusal;
 mod slopes;
 mod tape;
@@ -53,6 +54,7 @@ pub use grid::MAX_SIZE;
 pub use heightmap::Heightmap;
 pub use probe::Probe;
 pub use raw::Grid;
+pub use reason::{Reason, Stops};
 pub use refusal::Refusal;
 pub use slopes::Slopes;
 pub use tape::{FIRST_EDITION_CLAUSES, FIRST_EDITION_SLOTS, MAX_CLAUSES, MAX_SLOTS, Tape};

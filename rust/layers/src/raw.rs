@@ -50,6 +50,22 @@ pub struct Probed {
     pub value: f64,
 }
 
+/// What comes back for a pixel. All but the answer's own figures are 0 where it is refused.
+#[repr(C)]
+#[derive(Clone, Copy, Debug, PartialEq, Eq)]
+pub struct Reason {
+    /// The answer; its count is 0.
+    pub answer: Answer,
+    /// The side of the region where the walk stopped: 64, 8 or 1.
+    pub side: u32,
+    /// The low end of the formula's range there, or at side 1 the value.
+    pub low: i32,
+    /// The high end, or at side 1 the value.
+    pub high: i32,
+    /// How many clauses the region's tape had.
+    pub clauses: u32,
+}
+
 /// Where the samples of a picture are: sample i on an axis is origin + i · step + step / 2, rounded down, in units of
 /// 1/65,536. So each pixel stands for the middle of its cell.
 ///
@@ -168,6 +184,9 @@ calls! {
     /// The picture and the count of [`tile_solid`], and three slopes a pixel: how much the formula grows along x, y and
     /// z at the visible sample, in units of 1/65,536 for each 1; three zeros where the height is 0.
     fn tile_slopes(tape: &[u8], grid: Grid, picture: &mut [u16], slopes: &mut [i32], work: &mut [u8]) -> Answer;
+
+    /// Why the pixel in column x and row y of [`tile_flat`]'s picture has material or has none. No picture is lent.
+    fn explain_pixel(tape: &[u8], grid: Grid, x: u32, y: u32, work: &mut [u8]) -> Reason;
 
     /// The Netpbm bitmap file of a flat picture.
     fn write_bitmap(width: u32, height: u32, picture: &[u8], out: &mut [u8]) -> Answer;

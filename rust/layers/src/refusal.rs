@@ -79,8 +79,8 @@ refusals! {
     /// A line of the core's table of refusals, in the table's order. Clauses are counted from 0.
     ///
     /// A [`Tape`](crate::Tape) meets lines 1 to 9, or as text 17 to 19, a drawing of it 10 and 11, a probe 20, a union
-    /// 21. Lines 12 to 14 are about lent memory, so only the calls of [`raw`](crate::raw) meet them, and 15 and 16 are
-    /// about the input of the program `drawlayer`.
+    /// 21, the reason for a pixel 23. Lines 12 to 14 are about lent memory, so only the calls of [`raw`](crate::raw)
+    /// meet them, and 15 and 16 are about the input of the program `drawlayer`.
     ///
     /// ```
     /// use layers::{Refusal, Tape};
@@ -142,6 +142,8 @@ refusals! {
     21 LargeUnion, "merging: a result of more than 6,144 clauses, the minimum counted, or of more than 128 slots",
         "one tape of two has the clauses of both and a minimum, at most {MAX_CLAUSES}, and the slots of both, at most \
          {MAX_SLOTS}: use slots again, or draw the parts one by one";
+    23 PixelOutside, "reason: a pixel outside the grid",
+        "columns and rows are counted from 0, so a pixel's are below the grid's width and height";
 }
 
 impl Error for Refusal {}

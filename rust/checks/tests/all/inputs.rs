@@ -4,15 +4,13 @@
 use checks::order::Ordered;
 use checks::plate::{self, Changing};
 use checks::random::Random;
-use checks::reason::Asked;
 use checks::swept::Sweeping;
 use checks::table::{self, Turn};
 use layers::raw;
 use slow::call::Answer;
 use slow::fault::{self, Plant};
 use slow::plate::{PLACE, PLACES, afresh};
-use slow::reason::Reason;
-use slow::{order, plate as slow_plate, reason, swept, table as slow_table};
+use slow::{order, plate as slow_plate, swept, table as slow_table};
 use std::collections::BTreeSet;
 use std::fmt::Debug;
 
@@ -64,27 +62,6 @@ fn orders() {
     assert_eq!(met(1_500, Ordered::damaged, number), [0, 1, 2, 3, 4, 5, 6, 7, 8, 9, 10, 11, 12, 13]);
     let kinds = [Ordered::random, Ordered::damaged];
     all_show(order::Fault::ALL, 400, &kinds, |case, noise, fault| ordered(case, noise, Some(fault)).map(drop));
-}
-
-fn asked(case: &Asked, noise: &mut Random, fault: Option<reason::Fault>) -> Result<Reason, String> {
-    case.compare(noise, |drawing, x, y, work| {
-        planted(fault, || reason::explain_pixel(&drawing.tape, &drawing.grid, x, y, work))
-    })
-}
-
-#[test]
-fn reasons() {
-    let number = |case: &Asked, noise: &mut Random| asked(case, noise, None).expect("the same call").answer.number;
-    assert_eq!(met(300, Asked::random, number), [0]);
-    assert_eq!(met(3_000, Asked::damaged, number), [0, 1, 2, 3, 4, 5, 6, 7, 8, 9, 10, 11, 13, 23]);
-    // every side, with and without material
-    let side = |case: &Asked, noise: &mut Random| {
-        let said = asked(case, noise, None).expect("the same call");
-        said.side as u8 + 100 * (said.high < 0) as u8
-    };
-    assert_eq!(met(1_000, Asked::random, side), [1, 8, 64, 101, 108, 164]);
-    let kinds = [Asked::random, Asked::damaged];
-    all_show(reason::Fault::ALL, 2_000, &kinds, |case, noise, fault| asked(case, noise, Some(fault)).map(drop));
 }
 
 fn sweeping(case: &Sweeping, noise: &mut Random, fault: Option<swept::Fault>) -> Result<Answer, String> {

@@ -11,6 +11,7 @@ mod lanes;
 mod merging;
 mod probe;
 mod program;
+mod reason;
 mod refusals;
 mod slopes;
 mod stack;

@@ -1,6 +1,7 @@
 //! The stack that each call takes.
 
 use crate::probe::core;
+use crate::reason;
 use checks::compare::answer;
 use checks::drawing::Drawing;
 use checks::lists::List;
@@ -64,6 +65,24 @@ fn drawings_by_tiles() {
         });
         assert_eq!(drawn, [a, b, b]);
     }
+}
+
+/// The reasons for pixels: of every side, so that every level is entered.
+#[test]
+fn reasons() {
+    let grid = Grid { sizes: [512, 512, 0], origins: [-43_300, -43_300, 0], steps: [1000; 3] };
+    let mut sides = Vec::new();
+    for list in tapes() {
+        let drawing = Drawing::new(list.tape(), grid);
+        for (x, y) in [(511, 511), (63, 63), (44, 42), (43, 43)] {
+            let expected = slow::reason::explain_pixel(&drawing.tape, &grid, x, y, &mut vec![0; drawing.work]);
+            let drawing = drawing.clone();
+            let said = on(MOST, move || reason::core(&drawing, x, y, &mut vec![0; drawing.work]));
+            assert_eq!(said, expected);
+            sides.push(said.side);
+        }
+    }
+    assert!([64, 8, 1].iter().all(|side| sides.contains(side)), "{sides:?}");
 }
 
 /// Draws in full.
