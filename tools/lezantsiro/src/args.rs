@@ -61,6 +61,8 @@ pub enum Command {
     Time(TimeArgs),
     /// Write a folder's masks as one page to look at
     View(ViewArgs),
+    /// Say why a pixel has material or none
+    Why(WhyArgs),
     /// Make a tape of a .vm file, as Fidget and mpr have them
     Import(ImportArgs),
 }
@@ -282,6 +284,31 @@ pub struct ViewArgs {
 }
 
 #[derive(Args, Debug)]
+pub struct WhyArgs {
+    /// The part, or a folder of masks, whose plate and layers are then taken
+    #[command(flatten)]
+    pub part: PartArgs,
+    /// The pixel of the mask: its column from the left and its row from the top, from 0
+    #[arg(long, value_name = "X,Y", value_parser = parse_pixel)]
+    pub pixel: (u32, u32),
+    /// The layer, counted from 0
+    #[arg(long, value_name = "K", default_value_t = 0)]
+    pub layer: u32,
+    /// The layer's z, in the place of its number
+    #[arg(long, value_name = "MM", allow_hyphen_values = true, conflicts_with = "layer")]
+    pub z: Option<Fraction>,
+    /// Write also a picture of where the work goes
+    #[arg(long, value_name = "FILE")]
+    pub png: Option<PathBuf>,
+    #[command(flatten)]
+    pub levels: LevelArgs,
+    #[command(flatten)]
+    pub plate: PlateArgs,
+    #[command(flatten)]
+    pub mask: MaskArgs,
+}
+
+#[derive(Args, Debug)]
 pub struct ImportArgs {
     /// A .vm file: a line a clause
     pub file: PathBuf,
@@ -299,6 +326,11 @@ fn parse_size(text: &str) -> Result<(u32, u32), String> {
 
 fn parse_pitch(text: &str) -> Result<[Fraction; 2], String> {
     pitches(text).ok_or(format!("'{text}' is no pitch such as 0.05mm, 1/20 or 0.019x0.024mm"))
+}
+
+fn parse_pixel(text: &str) -> Result<(u32, u32), String> {
+    let pixel = text.split_once(',').and_then(|(x, y)| Some((x.trim().parse().ok()?, y.trim().parse().ok()?)));
+    pixel.ok_or(format!("'{text}' is no pixel such as 120,80: a column and a row"))
 }
 
 fn parse_positive(text: &str) -> Result<Fraction, String> {

@@ -24,9 +24,11 @@ mod relief;
 mod setup;
 mod spans;
 mod stack;
+mod trace;
 mod units;
 mod verify;
 mod view;
+mod why;
 
 use args::Cli;
 use clap::Parser;

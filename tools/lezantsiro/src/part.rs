@@ -1,6 +1,7 @@
 //! What is drawn: a formula as text, a grid record with its tape, or a tape alone.
 
 use crate::language::expand::{Expanded, Unread, expanded};
+use crate::manifest::Source;
 use crate::messages::{Place, Stop, grouped};
 use crate::spans::{Span, spans};
 use crate::units::Fraction;
@@ -76,6 +77,17 @@ impl Part {
                 let own = OwnGrid::of_text(&bytes)
                     .map_err(|line| Stop::Usage(format!("{name}: '{line}' is no grid: {GRID_LINES}")))?;
                 Ok(Part { own, ..Part::of_text(name, bytes)? })
+            }
+        }
+    }
+
+    /// The part that a manifest has.
+    pub fn of_source(name: &str, source: &Source) -> Result<Part, Stop> {
+        match source {
+            Source::Formula(formula) => Part::of_text(name.to_string(), formula.as_bytes().to_vec()),
+            Source::Tape(bytes) => {
+                let tape = Tape::from_bytes(&bytes[..]).map_err(|refusal| Stop::refused(refusal, name))?;
+                Ok(Part { name: name.to_string(), tape, text: None, own: None, compiled: None })
             }
         }
     }

@@ -5,7 +5,7 @@
 pub mod expand;
 mod read;
 mod tokens;
-mod values;
+pub mod values;
 
 use std::fmt;
 use std::rc::Rc;

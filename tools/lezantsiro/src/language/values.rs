@@ -2,12 +2,13 @@
 //! computed on the tree and shares nothing with the ways by which the tree becomes a tape, so that the two can be
 //! compared.
 
-use super::{Angle, Binary, Extreme, Kind, Tree, Unary, Wrong};
+use super::{Angle, Extreme, Kind, Tree, Wrong};
+pub use super::{Binary, Unary};
 use std::collections::HashMap;
 use std::rc::Rc;
 
 /// The greatest value; the least is its negative.
-const MOST: i128 = i32::MAX as i128;
+pub const MOST: i128 = i32::MAX as i128;
 
 /// Units of one.
 const ONE: i128 = 65_536;
@@ -127,7 +128,8 @@ fn raised(a: i128, power: u32) -> i128 {
 }
 
 impl Unary {
-    fn of(self, a: i128) -> i128 {
+    /// Of a value, all in units.
+    pub fn of(self, a: i128) -> i128 {
         match self {
             Unary::Absolute => a.abs(),
             Unary::Square => clamped((a * a).div_euclid(ONE)),
@@ -137,7 +139,8 @@ impl Unary {
 }
 
 impl Binary {
-    fn of(self, a: i128, b: i128) -> i128 {
+    /// Of two values, all in units.
+    pub fn of(self, a: i128, b: i128) -> i128 {
         clamped(match self {
             Binary::Add => a + b,
             Binary::Subtract => a - b,
