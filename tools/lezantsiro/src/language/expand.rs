@@ -220,3 +220,87 @@ impl Extreme {
         }
     }
 }
+
+#[cfg(test)]
+mod tests {
+    use super::*;
+    use std::fmt::Write;
+
+    /// A random text with names, powers, minima of many and angles, as a person could have written it.
+    fn random_text(random: &mut Random) -> String {
+        let mut text = String::new();
+        let names = random.below(4) as usize;
+        for name in 0..names {
+            let tree = random_part(random, 3, name);
+            write!(text, "n{name} = {tree}  # a name\n").expect("written");
+        }
+        text + &random_part(random, 4, names)
+    }
+
+    fn random_part(random: &mut Random, depth: u32, names: usize) -> String {
+        let mut part = || random_part(random, depth.saturating_sub(1), names);
+        let [a, b, c] = if depth == 0 { [const { String::new() }; 3] } else { [part(), part(), part()] };
+        if depth == 0 {
+            return random_leaf(random, names);
+        }
+        match random.below(14) {
+            0 => format!("({a}\n + {b})"),
+            1 => format!("({a} - {b})"),
+            2 => format!("({a})*({b})"),
+            3 => format!("({a})/({b})"),
+            4 => format!("min({a}, {b},\n {c})"),
+            5 => format!("max({a}, {b}, {c}, {a})"),
+            6 => format!("-({a})"),
+            7 => format!("({a})^{}", 1 + random.below(5)),
+            8 => format!("sqrt({a})"),
+            9 => format!("abs({a})"),
+            10 => format!("sqr({a})"),
+            11 => format!("({a})*sin({}/7)", random.below(2_000)),
+            12 => format!("max({a})"),
+            _ => random_leaf(random, names),
+        }
+    }
+
+    fn random_leaf(random: &mut Random, names: usize) -> String {
+        match random.below(6) {
+            0 => "x".to_string(),
+            1 => "y".to_string(),
+            2 => "z".to_string(),
+            3 => format!(".{}", random.below(10_000)),
+            4 if names > 0 => format!("n{}", random.below(names as u64)),
+            _ => format!("{}.{:03}", random.below(300), random.below(1_000)),
+        }
+    }
+
+    /// What a text means, by its tree, is what its plain formula means, by the proved reader and probe, and what its
+    /// compiled tape means.
+    #[test]
+    fn random_texts_mean_what_their_expansions_mean() {
+        let mut random = Random::new(38);
+        for _ in 0..300 {
+            let text = random_text(&mut random);
+            let tree = read(&text).unwrap_or_else(|wrong| panic!("{}", wrong.shown(&text)));
+            let (graph, result) = graph(&tree).expect("a graph");
+            let tapes = [
+                Tape::from_text(&plain(&tree).expect("a formula")).ok(),
+                Some(compile(&graph, result, MAX_SLOTS).expect("a tape")),
+            ];
+            for tape in tapes.into_iter().flatten() {
+                assert_eq!(compared(&tree, &tape), Ok(()), "{text}");
+            }
+        }
+    }
+
+    #[test]
+    fn a_long_sum_is_no_deep_stack() {
+        let long = vec!["x"; 30_000].join(" + ");
+        assert_eq!(expanded(&long), Err(Unread::TooBig(Some(30_000))));
+        // what is shared is one clause each
+        let doubled: String =
+            (1..60).fold("a0 = x\n".to_string(), |text, i| text + &format!("a{i} = a{} + a{}\n", i - 1, i - 1));
+        match expanded(&(doubled + "a59")) {
+            Ok(Expanded::Compiled { formula: None, tape, .. }) => assert_eq!(tape.clause_count(), 60),
+            other => panic!("{other:?}"),
+        }
+    }
+}

@@ -67,8 +67,11 @@ async function load() {
   }
   context.putImageData(out, 0, 0);
   sheet = made;
+  if (view.cursor) point(...view.cursor);
   draw();
   say();
+  // how many pixels of the layer have material, for who reads the page by a program
+  document.body.dataset.material = mask.data.reduce((sum, byte, at) => sum + (at % 4 === 0 && byte > 0 ? 1 : 0), 0);
 }
 
 function fit() {
@@ -247,7 +250,17 @@ document.addEventListener("keydown", (event) => {
   }
 });
 
+// A link may say where to look: #layer=17&pixel=120,80&heights
+function asked() {
+  const words = new URLSearchParams(location.hash.slice(1));
+  const pixel = (words.get("pixel") || "").split(",").map(Number);
+  const layer = Number(words.get("layer") ?? Math.floor(data.count / 2));
+  const at = shown.findIndex((each) => each.index >= layer);
+  view.heights = words.has("heights");
+  if (pixel.length === 2 && pixel.every(Number.isInteger)) view.cursor = pixel;
+  return at < 0 ? shown.length - 1 : at;
+}
+
 slider.max = shown.length - 1;
 fit();
-go(Math.floor(shown.length / 2));
-window.lezantsiro = { view, go, point, pixels: () => mask, ready: () => sheet !== null };
+go(asked());
