@@ -31,7 +31,7 @@
  *    9 a slot read that no earlier clause wrote
  *   10 a size not 1 to 512
  *   11 a step below 1, or an origin, z or last sample outside -2,147,483,647 to 2,147,483,647
- *   12 picture or slope buffer not of the exact length
+ *   12 picture or slope buffer not of the exact length; order list not of every tile one time
  *   13 work buffer below 32,768 bytes
  *   14 packing, unpacking, merging, text or file: output not of the exact length
  *   17 text: the rules of a formula broken
@@ -152,6 +152,15 @@ LayersAnswer layers_tile_solid(const uint8_t *tape, size_t tape_len, LayersGrid 
                                uint8_t *work, size_t work_len);
 
 /*
+ * The picture of layers_tile_solid with its 64-tiles drawn in an order of the caller's own, which changes no height: order
+ * has each tile's number one time. The tiles are numbered from 0, those with the greatest z first, in each layer of tiles
+ * row by row. The count is that of the walk in this order.
+ */
+LayersAnswer layers_tile_solid_in_order(const uint8_t *tape, size_t tape_len, LayersGrid grid, const uint16_t *order,
+                                        size_t order_len, uint16_t *picture, size_t picture_len, uint8_t *work,
+                                        size_t work_len);
+
+/*
  * The picture and the count of layers_tile_solid, and three slopes a pixel, x, y and z of one and then of the next: how
  * much the formula grows along each axis at the visible sample, in units of 1/65,536 for each 1; 0 where the height is 0.
  */
@@ -171,7 +180,11 @@ LayersAnswer layers_write_bitmap(uint32_t width, uint32_t height, const uint8_t 
 LayersAnswer layers_write_heights(uint32_t width, uint32_t height, const uint16_t *picture, size_t picture_len, uint8_t *out,
                                   size_t out_len);
 
-/* The formula at a point, each coordinate rounded down to a unit of 1/65,536; the value is exact. */
+/*
+ * The formula at a point, each coordinate rounded down to a unit of 1/65,536; the value is exact. The floating-point
+ * state is as the ABI has it at a program's start: where flush-to-zero or denormals-are-zero is set, as by gcc -Ofast,
+ * -1e-310 is not rounded down but taken for 0.
+ */
 LayersProbed layers_probe(const uint8_t *tape, size_t tape_len, LayersPoint point);
 
 #ifdef __cplusplus

@@ -1,7 +1,9 @@
 # Read by ./draw and ./lezantsiro: proving with rt, one run at a time, and how far it is. They set $script, their own
-# name, $root, $out, $work, a folder of theirs, and $goals, the crates that are proved; and say and fail.
+# name, $root, $out, $work, a folder of theirs, and $goals, the crates that are proved; and say and fail. When a signal
+# ends them they call stop_proving.
 # shellcheck shell=sh disable=SC2154
 ticker=
+proving=
 
 # Waits until no other run is at work: rt and the pictures share folders. The kernel frees descriptor 9 with the last
 # process that has it, so that a killed run leaves no lock behind, and one whose rt is still at work does.
@@ -24,6 +26,12 @@ quiet() {
     ticker=
     # shellcheck disable=SC2059
     printf "$1"
+}
+
+# Ends rt if it is at work.
+stop_proving() {
+    [ -z "$proving" ] || ! { read -r rt < "$work/rt" && kill "$rt"; } 2> /dev/null
+    proving=
 }
 
 # How far rt is, by what it has told of each crate: sets $ended, $total and $names, the crates that it is at. It proves
@@ -104,11 +112,18 @@ prove() {
         tick 9>&- &
         ticker=$!
     fi
+    # In the background: a trap waits for the end of a command in the foreground, but not for this.
+    proving=yes
     {
         # shellcheck disable=SC2086
-        (cd "$root" && rt "$3" $goals) 2>&1
-        echo $? > "$work/status"
-    } | follow
+        (cd "$root" && exec rt "$3" $goals) 2>&1 &
+        echo $! > "$work/rt"
+        wait $!
+        # whoever was ended has removed the folder
+        { echo $? > "$work/status"; } 2> /dev/null
+    } | follow &
+    wait $!
+    proving=
     quiet '\r\033[K'
     [ "$(cat "$work/status")" = 0 ] ||
         fail "$1 was not built: see out/build.log, whose last line is: $(tail -n 1 "$out/build.log")"

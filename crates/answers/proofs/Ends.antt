@@ -9,7 +9,7 @@ use lib.ListN.{getD}
 use borrow.Author.Tests.{ne-eqb, eq-eqb}
 use Rattle.rules.specs.Values.{pick, firstFault}
 use Rattle.rules.specs.Tapes.{placeOf, readTape}
-use Rattle.rules.proofs.Lines.{this-line}
+use Rattle.rules.proofs.Lines.{this-line, first-here}
 use Rattle.rules.proofs.Places.{tape-placed}
 use Rattle.answers.specs.declared.Answer.{Answer}
 use Rattle.answers.specs.Says.{Answered, written, checkedBy}
@@ -93,3 +93,11 @@ pub next-stage : (before s : List ℕ) {found after : List ℕ} {f : ℕ} {q r :
 next-stage before s {found} {after} e h k i =
     first-stage s h (k ∙ ap (λ (a : Answer). firstFault (a .number ∷ found)) e ∙ sym (in-stages before found))
     (ap (λ l. before ++ l) i) (ap (λ (a : Answer). a .place) e)
+
+-- Where a stage refuses, its answer is the call's: the lines behind it are not tested.
+pub stage-refuses : (before after s : List ℕ) {r : Answer} → r ≡ checkedBy before s → (r .number ≡ 0 → ⊥)
+    → r ≡ checkedBy (before ++ after) s
+stage-refuses before after s e h =
+    e
+    ∙ ap (λ n. answer n (readTape s .place) 0)
+    (sym (in-stages before after ∙ first-here (firstFault before) (firstFault after) (some-line before s e h)))

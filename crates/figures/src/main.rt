@@ -1,8 +1,10 @@
 // The figures of the scope paper that are run, by the public calls: tapes, both files, and the limits; and the drawn
-// figures of tapes of edition 02 and of two tapes into one. Number, place and count of each call are written.
+// figures of tapes of edition 02, of two tapes into one and of tiles in both orders. Number, place and count of each call
+// are written.
 mod files;
 mod given;
 mod limits;
+mod orders;
 mod say;
 mod tapes;
 
@@ -15,6 +17,7 @@ fn main() {
     files::flat_in_full();
     files::solid();
     files::solid_in_full();
+    orders::both_orders();
     limits::most_clauses();
     limits::too_many_clauses();
     limits::sizes();

@@ -54,6 +54,7 @@ pub fn bytes(s: &[u8]) {
 // Whether a file begins with these bytes.
 fn begins(file: &[u8], head: &[u8]) -> bool
     ensures { λ r. ⌜ (r ≡ true → take (length (now (head .entry))) (now (file .entry)) ≡ now (head .entry)) ⌝ }
+    ensures { λ r. ⌜ (take (length (now (head .entry))) (now (file .entry)) ≡ now (head .entry) → r ≡ true) ⌝ }
 {
     let n = head.len();
     if file.len() < n {

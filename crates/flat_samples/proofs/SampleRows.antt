@@ -1,5 +1,5 @@
 -- A row of regions of side 1: which samples have material, and what visiting them marks and counts.
-use mathlib.Core.Path.{_≡_, refl, sym, ap, _∙_}
+use mathlib.Core.Path.{_≡_, refl, sym, ap, subst, _∙_}
 use mathlib.Core.Bool.{Bool, true, false}
 use mathlib.Core.List.{List, [], _∷_, _++_}
 use Prim.Native.Nat.{ℕ, zero, suc, _+_, _-_, _*_, _/_, _%_, _≤_, _<_}
@@ -120,10 +120,17 @@ samples-spare {grid} {c} k t y byte e =
     row-spare (grid .width) (c .x) byte (materials m t (flatIn grid) (c .x) y)
     (omega (arith, materials-length t (flatIn grid) y m (c .x), k .xs)) e
 
+-- What is said of the stored byte is said of whatever it equals.
+pub stored-as : {w x y u v : ℕ} {b b′ : List ℕ} → u ≡ v → StoredRow w x y u b b′ → StoredRow w x y v b b′
+stored-as {w} {x} {y} {b = b} {b′ = b′} e r = subst (λ k. StoredRow w x y k b b′) e r
+
 -- A row of a region of side 8, by its byte and what storing the byte does.
 module _ {grid : Grid} {c : Cell} (k : CellOk 1 grid c) (eight : c .side ≡ 8) where
   row-wide : c .xend - c .x ≤ 8
   row-wide = omega (arith, k .xs, eight)
+
+  pub row-bound : (n : ℕ) → (c .xend - c .x) * n ≤ 8 * n
+  row-bound n = mul-le-mul-right n row-wide
 
   -- Where there was nothing, the byte's samples are marked.
   pub row-stored : (y byte : ℕ) {b b′ : List ℕ} → c .x % 8 ≡ 0
@@ -159,5 +166,5 @@ module _ {grid : Grid} {c : Cell} (k : CellOk 1 grid c) (eight : c .side ≡ 8) 
                   f (grid .height) (s .heights) bs (omega (arith, w, row-wide)) (omega (arith, w, k .xs)) (e n a) h;
               count = λ s h. ap (λ v. s .clauses + m * v) (length-clauses ws);
             });
-        bound = mul-le-mul-right (length ws) row-wide;
+        bound = row-bound (length ws);
       }

@@ -20,7 +20,7 @@ pub record ForLanes (origin step : ℤ) (from end : ℕ) : Type 0 where
   pub span : SpanIn origin step from end
   pub small : end ≤ sizeLimit
 
--- The byte of row y of a region of side 8, and that row drawn.
+-- The byte of row y of a region of side 8, and that row stored, whatever its byte held.
 pub record ForByte (code : List ℕ) (grid : Grid) (parent : Cell) (xs : List ℤ) (y : ℕ) (slots : List (List ℤ))
     : Type 0 where
   pub sound : Sound code
@@ -36,7 +36,6 @@ pub record ForRow (code : List ℕ) (grid : Grid) (parent : Cell) (xs : List ℤ
   pub byte : ForByte code grid parent xs y slots
   pub ready : Ready false grid picture
   pub start : parent .x % 8 ≡ 0
-  pub blank : Blank (grid .width) (parent .x) (parent .x + 8) y (y + 1) picture
 
 -- All its rows.
 pub record ForRows (code : List ℕ) (grid : Grid) (parent : Cell) (slots : List (List ℤ)) (picture : List ℕ)

@@ -17,8 +17,8 @@ ghost use Rattle.rules.specs.Tapes.{slotLimit};
 ghost use Rattle.rules.specs.Drawings.{sizeLimit, alongX, alongY};
 ghost use Rattle.rules.specs.Accepted.{Accepted};
 ghost use Rattle.code.specs.Words.{tapeIn};
-ghost use Rattle.picture.specs.Bits.{rowByte};
-ghost use Rattle.picture.specs.Parts.{Apart};
+ghost use Rattle.picture.specs.Bits.{rowByte, StoredRow};
+ghost use Rattle.picture.specs.Parts.{Blank, Apart};
 ghost use Rattle.picture.specs.Shapes.{gridIn};
 ghost use Rattle.walk.specs.Walks.{Folds};
 ghost use Rattle.flat_samples.specs.Rows.{materials, LaneSamples, SignByte};
@@ -89,7 +89,8 @@ fn row_byte(
     sign_byte(row, parent.xend - parent.x)
 }
 
-// One row of samples of the parent, each counted as a run of the words.
+// One row of samples of the parent, each counted as a run of the words. Whatever its byte held, each sample's bit is its
+// material; where the byte was 0, this is what the walk draws.
 fn sample_row(
     code: &[u64],
     grid: Grid,
@@ -100,8 +101,14 @@ fn sample_row(
     picture: &mut [u8],
 ) -> u64
     requires { ⌜ ForRow (now code) grid parent xs y (now slots) (now picture) ⌝ }
-    ensures { λ r. ⌜ Folds false 8 (now (code .entry)) grid [] (alongX 8 (parent .x) y 0 1 (parent .xend))
-        (now (picture .entry)) (now (picture .exit)) r ⌝ }
+    ensures { λ _. ⌜ ((n : ℕ) → Accepted (tapeIn n (now (code .entry)))
+        → StoredRow (grid .width) (parent .x) y
+        (rowByte (materials (parent .xend - parent .x) (tapeIn n (now (code .entry))) (gridIn grid false) (parent .x)
+        y))
+        (now (picture .entry)) (now (picture .exit))) ⌝ }
+    ensures { λ r. ⌜ (Blank (grid .width) (parent .x) (parent .x + 8) y (y + 1) (now (picture .entry))
+        → Folds false 8 (now (code .entry)) grid [] (alongX 8 (parent .x) y 0 1 (parent .xend))
+        (now (picture .entry)) (now (picture .exit)) r) ⌝ }
     ensures { λ _. ⌜ length (now (slots .exit)) ≡ slotLimit ⌝ }
     ensures { λ _. ⌜ Apart (grid .width) (parent .x) (parent .x + 8) y (y + 1) (now (picture .entry))
         (now (picture .exit)) ⌝ }

@@ -6,10 +6,11 @@ pub use promises::Listed;
 pub use promises::Point;
 pub use promises::Probe;
 pub use promises::Probed;
+pub use promises::Reason;
 pub use promises::Sided;
 ghost use mathlib.Core.Bool.{true, false};
 ghost use Rattle.promises.specs.Says.{PackSays, UnpackSays, FullSays, TilesSay, SlopesSay, BitmapSays, HeightsSay};
-ghost use Rattle.promises.specs.Says.{ProbeSays, SidedSays, MergeSays, TextAnswered};
+ghost use Rattle.promises.specs.Says.{ProbeSays, SidedSays, MergeSays, TextAnswered, ReasonSays, OrderSays};
 
 pub fn pack_tape(slots: u32, list: &[i32], out: &mut [u8]) -> Answer
     ensures { λ r. ⌜ PackSays slots (now (list .entry)) (now (out .entry)) (now (out .exit)) r ⌝ }
@@ -60,6 +61,25 @@ pub fn tile_slopes(
         (now (slopes .entry)) (now (slopes .exit)) (now (work .entry)) (now (work .exit)) r ⌝ }
 {
     slope_drawing::tile_slopes(tape, grid, picture, slopes, work)
+}
+
+pub fn explain_pixel(tape: &[u8], grid: Grid, x: u32, y: u32, work: &mut [u8]) -> Reason
+    ensures { λ r. ⌜ ReasonSays (now (tape .entry)) grid x y (now (work .entry)) (now (work .exit)) r ⌝ }
+{
+    reason::explain_pixel(tape, grid, x, y, work)
+}
+
+pub fn tile_solid_in_order(
+    tape: &[u8],
+    grid: Grid,
+    order: &[u16],
+    picture: &mut [u16],
+    work: &mut [u8],
+) -> Answer
+    ensures { λ r. ⌜ OrderSays (now (tape .entry)) grid (now (order .entry)) (now (picture .entry))
+        (now (picture .exit)) (now (work .entry)) (now (work .exit)) r ⌝ }
+{
+    order_drawing::tile_solid_in_order(tape, grid, order, picture, work)
 }
 
 pub fn merge_tapes(first: &[u8], second: &[u8], out: &mut [u8]) -> Answer

@@ -4,10 +4,11 @@ use answers::Answer;
 use picture::grid::Grid;
 use promises::Listed;
 use promises::Point;
+use promises::Reason;
 use promises::Sided;
 ghost use mathlib.Core.Bool.{true, false};
 ghost use Rattle.promises.specs.Says.{PackSays, UnpackSays, FullSays, TilesSay, BitmapSays, HeightsSay};
-ghost use Rattle.promises.specs.Says.{SidedSays, SlopesSay, MergeSays, TextAnswered};
+ghost use Rattle.promises.specs.Says.{SidedSays, SlopesSay, MergeSays, TextAnswered, ReasonSays, OrderSays};
 
 #[no_mangle]
 pub extern "C" fn layers_pack_tape(slots: u32, list: &[i32], out: &mut [u8]) -> Answer
@@ -71,6 +72,20 @@ pub extern "C" fn layers_tile_solid(
 }
 
 #[no_mangle]
+pub extern "C" fn layers_tile_solid_in_order(
+    tape: &[u8],
+    grid: Grid,
+    order: &[u16],
+    picture: &mut [u16],
+    work: &mut [u8],
+) -> Answer
+    ensures { λ r. ⌜ OrderSays (now (tape .entry)) grid (now (order .entry)) (now (picture .entry))
+        (now (picture .exit)) (now (work .entry)) (now (work .exit)) r ⌝ }
+{
+    layers::tile_solid_in_order(tape, grid, order, picture, work)
+}
+
+#[no_mangle]
 pub extern "C" fn layers_tile_slopes(
     tape: &[u8],
     grid: Grid,
@@ -82,6 +97,19 @@ pub extern "C" fn layers_tile_slopes(
         (now (slopes .entry)) (now (slopes .exit)) (now (work .entry)) (now (work .exit)) r ⌝ }
 {
     layers::tile_slopes(tape, grid, picture, slopes, work)
+}
+
+#[no_mangle]
+pub extern "C" fn layers_explain_pixel(
+    tape: &[u8],
+    grid: Grid,
+    x: u32,
+    y: u32,
+    work: &mut [u8],
+) -> Reason
+    ensures { λ r. ⌜ ReasonSays (now (tape .entry)) grid x y (now (work .entry)) (now (work .exit)) r ⌝ }
+{
+    layers::explain_pixel(tape, grid, x, y, work)
 }
 
 #[no_mangle]

@@ -12,7 +12,8 @@ use tape::write::put_head;
 use tape_check::check_list;
 use tape_check::check_tape;
 ghost use mathlib.Core.Path.{_≡_};
-ghost use Rattle.rules.specs.Tapes.{readList, readTape};
+ghost use mathlib.Core.Bool.{true};
+ghost use Rattle.rules.specs.Tapes.{readList, readTape, allIn32};
 ghost use Rattle.packing.specs.Packing.{bytesOf, numbersOf, Fills, Packs, Unpacks};
 
 const WRONG_LENGTH: u8 = 14;
@@ -27,6 +28,7 @@ pub struct Packed {
 fn write_tape(slots: u32, list: &[i32], count: u32, out: &mut [u8])
     requires { ⌜ Fills (readList slots (now list)) count (bytesOf slots (now list)) (now out) ⌝ }
     ensures { λ _. ⌜ now (out .exit) ≡ bytesOf slots (now (list .entry)) ⌝ }
+    ensures { λ _. ⌜ allIn32 (now (list .entry)) ≡ true ⌝ }
 {
     put_head(out, slots, count);
     let mut i: u32 = 0;
@@ -40,6 +42,7 @@ fn write_tape(slots: u32, list: &[i32], count: u32, out: &mut [u8])
 // Refusals 4, 3, 5 to 9, 14, then the tape's bytes.
 pub fn pack(slots: u32, list: &[i32], out: &mut [u8]) -> Packed
     ensures { λ r. ⌜ Packs slots (now (list .entry)) (now (out .entry)) (now (out .exit)) r ⌝ }
+    ensures { λ r. ⌜ (r .number ≡ 0 → allIn32 (now (list .entry)) ≡ true) ⌝ }
 {
     let c = check_list(slots, list);
     let number = c.number;

@@ -15,7 +15,7 @@ use Rattle.picture.specs.Shapes.{gridIn}
 use Rattle.picture.specs.declared.grid.Grid.{Grid}
 use Rattle.picture.proofs.Grids.{accepted}
 use Rattle.answers.specs.declared.Answer.{Answer}
-use Rattle.answers.specs.Lines.{drawFault, tileFault}
+use Rattle.answers.specs.Lines.{Draws, drawFault, tileFault}
 use Rattle.promises.specs.Says.{FullSays, TilesSay}
 use Rattle.answers.proofs.Clear.{tiles-clear}
 
@@ -32,6 +32,22 @@ pub record DrawnByTiles (isSolid : Bool) (s : List ℕ) (d : Grid) (o′ : List 
   pub part-solid : isSolid ≡ true → (r : D.Region) (u : D.State) → r .long ≡ 64
       → D.partOf (readTape s .tape) (gridIn d isSolid) r u ≤ D.solidBound * length (readTape s .tape .clauses)
 
+-- What a drawing that no line refuses leaves, by the walk's picture and count. A drawing with slopes has them too.
+pub of-walk : (t : Bool) (s : List ℕ) (d : Grid) (n : ℕ) → Draws t s (gridIn d t) n
+    → (o′ : List ℕ) → o′ ≡ picture t (gridIn d t) (D.walked (readTape s .tape) (gridIn d t) .heights)
+    → (count : ℕ) → count ≡ D.walked (readTape s .tape) (gridIn d t) .clauses → DrawnByTiles t s d o′ count
+of-walk t s d n c o′ left count sum =
+    let g = gridIn d t in
+    let tiles = demand-3 s (c .read) in
+    let kind = accepted d t (c .grid) .kind in
+    record {
+      full = left ∙ ap (picture t g) (tiles .same-picture g t kind (c .grid));
+      sum = sum;
+      same-value = λ rs p i j m n h. tiles .same-value-in-walk g t kind (c .grid) rs p i j m n h;
+      part-flat = λ h q u l. tiles .part-flat g q u (sym kind ∙ h) (ap (λ b. D.gridFault b g) (sym h) ∙ c .grid) l;
+      part-solid = λ h q u l. tiles .part-solid g q u (sym kind ∙ h) (ap (λ b. D.gridFault b g) (sym h) ∙ c .grid) l;
+    }
+
 pub by-tiles : (t : Bool) (s : List ℕ) (d : Grid) (o o′ w w′ : List ℕ) (r : Answer) → TilesSay t s d o o′ w w′ r
     → r .number ≡ 0 → DrawnByTiles t s d o′ (r .count)
 by-tiles t s d o o′ w w′ r f e =
@@ -39,16 +55,8 @@ by-tiles t s d o o′ w w′ r f e =
     let x = tileFault t s g (length o) (length w) in
     let z : x ≡ 0 = sym (f .answer .number) ∙ e in
     let k = eq-eqb x 0 z in
-    let c = tiles-clear t s g (length o) (length w) z .drawing in
-    let tiles = demand-3 s (c .read) in
-    let kind = accepted d t (c .grid) .kind in
-    record {
-      full = (f .pixels ∙ rw k) ∙ ap (picture t g) (tiles .same-picture g t kind (c .grid));
-      sum = f .answer .count ∙ rw k;
-      same-value = λ rs p i j m n h. tiles .same-value-in-walk g t kind (c .grid) rs p i j m n h;
-      part-flat = λ h q u l. tiles .part-flat g q u (sym kind ∙ h) (ap (λ b. D.gridFault b g) (sym h) ∙ c .grid) l;
-      part-solid = λ h q u l. tiles .part-solid g q u (sym kind ∙ h) (ap (λ b. D.gridFault b g) (sym h) ∙ c .grid) l;
-    }
+    of-walk t s d (length o) (tiles-clear t s g (length o) (length w) z .drawing) o′ (f .pixels ∙ rw k) (r .count)
+    (f .answer .count ∙ rw k)
 
 -- The two drawings of one tape on one grid, both done: the same picture, whatever their buffers held.
 pub same-picture : (t : Bool) (s : List ℕ) (d : Grid) (o p o′ p′ w w′ : List ℕ) (q r : Answer) → FullSays t s d p p′ q

@@ -1,12 +1,11 @@
 -- Demand 2 of the calls: what a done packing wrote, unpacking gives back, list and slot count; and the other way round.
 -- The second call refuses nothing but an output of the wrong length.
 use mathlib.Core.Path.{_≡_, sym, ap, ap₂, _∙_}
-use mathlib.Core.Bool.{true}
 use mathlib.Core.List.{List, [], _∷_}
 use Prim.Native.Nat.{ℕ}
 use lib.IntN.{ℤ}
 use borrow.Author.Tests.{eq-eqb}
-use Rattle.rules.specs.Tapes.{Got, readTape, readList, tapeBytes, listOf, allIn32}
+use Rattle.rules.specs.Tapes.{Got, readTape, readList, tapeBytes, listOf}
 use Rattle.rules.proofs.Lines.{first-none, each-line}
 use Rattle.rules.proofs.Bytes.{both-ways}
 use Rattle.rules.proofs.Reading.{list-tape}
@@ -48,18 +47,18 @@ unpacked s o o′ r f e =
       slots = f .slots ∙ rw k;
     }
 
--- List, tape, list. That a lent list is of 32-bit numbers its type says, but no promise does.
+-- List, tape, list.
 pub record ListAgain (n : ℕ) (zs p p′ : List ℤ) (q : Listed) : Type 0 where
   pub number : q .answer .number ≡ outFault zs p
   pub list : q .answer .number ≡ 0 → p′ ≡ zs
   pub slots : q .answer .number ≡ 0 → q .slots ≡ n
 
-pub list-again : (n : ℕ) (zs : List ℤ) (o o′ : List ℕ) (r : Answer) (p p′ : List ℤ) (q : Listed) → allIn32 zs ≡ true
+pub list-again : (n : ℕ) (zs : List ℤ) (o o′ : List ℕ) (r : Answer) (p p′ : List ℤ) (q : Listed)
     → PackSays n zs o o′ r → r .number ≡ 0 → UnpackSays o′ p p′ q → ListAgain n zs p p′ q
-list-again n zs o o′ r p p′ q w f e h =
+list-again n zs o o′ r p p′ q f e h =
     let g = readList n zs in
     let a = packed n zs o o′ r f e in
-    let b = both-ways .by-list n zs w (a .read) in
+    let b = both-ways .by-list n zs (f .lent e) (a .read) in
     let same : readTape o′ ≡ g = ap readTape (a .out) ∙ b .0 in
     record {
       number = h .answer .number

@@ -2,6 +2,9 @@
 pub mod DemandTwo
 pub mod DemandThree
 pub mod Slopes
+pub mod SlopesExample
 pub mod Probes
 pub mod Texts
 pub mod Merging
+pub mod Reasons
+pub mod Orders

@@ -1,15 +1,18 @@
--- The lines of packing, texts and files, in their order. Those of drawings stand in answers, those of merging in
+-- The lines of packing, texts, files and reasons, in their order. Those of drawings stand in answers, those of merging in
 -- merge_rules, that of a probe's point in rules.
-use mathlib.Core.Bool.{not}
+use mathlib.Core.Path.{_≡_}
+use mathlib.Core.Bool.{false, _&&_, not}
 use mathlib.Core.List.{List, [], _∷_, _++_}
-use Prim.Native.Nat.{ℕ}
-use lib.Dec.{eqb}
+use Prim.Native.Nat.{ℕ, _≤_, _<_}
+use lib.Dec.{eqb, ltb}
 use lib.ListN.{length, drop}
 use Rattle.rules.specs.Values.{firstFault, when}
-use Rattle.rules.specs.Tapes.{Got, tapeBytes}
+use Rattle.rules.specs.Tapes.{Got, readTape, tapeBytes}
+use Rattle.rules.specs.Drawings as D
 use Rattle.rules.specs.Pictures.{sidesOk}
 use Rattle.formula_rules.specs.FormulaReader.{Answer, done, breaks, deep, reader}
 use Rattle.formula_rules.specs.FormulaTapes.{tapeOf, fitsText}
+use Rattle.answers.specs.Lines.{gridLines, workFault}
 
 -- Line 14: "output not of the exact length", that of b.
 abbrev pub outFault : {A : Type 0} → List A → List A → ℕ
@@ -54,3 +57,23 @@ answerBytes (deep n) = []
 -- "bytes after the tape stay".
 abbrev pub inFront : List ℕ → List ℕ → List ℕ
 inFront b o = b ++ drop (length b) o
+
+-- "23 when the pixel lies outside the grid, between 11 and 13": i is its column, j its row, m the work buffer's length.
+-- No picture is lent, so there is no 12.
+abbrev pub pixelFault : D.Grid → ℕ → ℕ → ℕ
+pixelFault g i j = when (not (ltb i (g .width) && ltb j (g .height))) 23
+
+abbrev pub reasonLines : List ℕ → D.Grid → ℕ → ℕ → ℕ → List ℕ
+reasonLines s g i j m = gridLines false s g ++ (pixelFault g i j ∷ (workFault m ∷ []))
+
+abbrev pub reasonFault : List ℕ → D.Grid → ℕ → ℕ → ℕ → ℕ
+reasonFault s g i j m = firstFault (reasonLines s g i j m)
+
+-- What is asked of one that no line refuses: the tape and the grid are accepted, the pixel is one of the grid's, and the
+-- work buffer is long enough.
+pub record Explains (s : List ℕ) (g : D.Grid) (i j m : ℕ) : Type 0 where
+  pub read : readTape s .number ≡ 0
+  pub grid : D.gridFault false g ≡ 0
+  pub column : i < g .width
+  pub row : j < g .height
+  pub work : D.workLimit ≤ m

@@ -1,4 +1,5 @@
 -- What the public calls promise: read Says; the others are the words that it uses.
 pub mod Faults
 pub mod Sides
+pub mod Figures
 pub mod Says

@@ -1,19 +1,20 @@
 -- What the public calls promise: number, place, count and every lent byte, for all inputs.
 use mathlib.Core.Path.{_≡_}
-use mathlib.Core.Bool.{Bool, true}
+use mathlib.Core.Bool.{Bool, true, false}
 use mathlib.Core.List.{List}
 use lib.IntN.{ℤ}
 use Prim.Native.Nat.{ℕ, _*_}
 use lib.Dec.{eqb}
 use lib.ListN.{length, replicate}
 use Rattle.rules.specs.Values.{pick}
-use Rattle.rules.specs.Tapes.{readTape, readList, tapeBytes, listOf, allBytes}
+use Rattle.rules.specs.Tapes.{readTape, readList, tapeBytes, listOf, allBytes, allIn32}
 use Rattle.rules.specs.Drawings as D
 use Rattle.rules.specs.Pictures.{stride, picture, bitmapFile, heightFile}
 use Rattle.rules.specs.Slopes.{slopesOf}
 use Rattle.rules.specs.Probes.{probeFault, probedValue}
 use Rattle.formula_rules.specs.FormulaReader.{reader}
 use Rattle.merge_rules.specs.Merging.{mergedBytes, mergeFault, faultClause}
+use Rattle.order_rules.specs.Orders.{walkedIn, orderFault}
 use Rattle.picture.specs.Shapes.{gridIn}
 use Rattle.picture.specs.declared.grid.Grid.{Grid}
 use Rattle.answers.specs.declared.Answer.{Answer}
@@ -23,12 +24,17 @@ use Rattle.promises.specs.declared.Listed.{Listed}
 use Rattle.promises.specs.declared.Point.{Point}
 use Rattle.promises.specs.declared.Probed.{Probed}
 use Rattle.promises.specs.declared.Sided.{Sided}
-use Rattle.promises.specs.Faults.{copyFault, fileFault, textFault, answerBytes, inFront}
+use Rattle.promises.specs.declared.Reason.{Reason}
+use Rattle.promises.specs.Faults.{copyFault, fileFault, textFault, answerBytes, inFront, reasonFault}
 use Rattle.promises.specs.Sides.{pointIn, probeOf, sideNumber, sideValue}
+use Rattle.promises.specs.Figures.{reasonIn, reasonBy}
 
+-- What is lent to packing are numbers of 32 bits, as its type says; a done packing has read each of them: so unpacking
+-- what it wrote gives them again.
 pub record PackSays (n : ℕ) (zs : List ℤ) (o o′ : List ℕ) (r : Answer) : Type 0 where
   pub answer : let g = readList n zs in Answered (copyFault g (tapeBytes (g .tape)) o) (g .place) 0 r
   pub out : let b = tapeBytes (readList n zs .tape) in o′ ≡ written (copyFault (readList n zs) b o) b o
+  pub lent : r .number ≡ 0 → allIn32 zs ≡ true
 
 -- What is lent to unpacking are bytes, as its type says: so packing what it gave gives them again.
 pub record UnpackSays (s : List ℕ) (o o′ : List ℤ) (r : Listed) : Type 0 where
@@ -78,6 +84,17 @@ pub record TilesSay (isSolid : Bool) (s : List ℕ) (d : Grid) (o o′ w w′ : 
       o′ ≡ written n (picture isSolid g (D.walked (readTape s .tape) g .heights)) o
   pub work : w′ ≡ written (tileFault isSolid s (gridIn d isSolid) (length o) (length w)) (replicate (length w) 0) w
 
+-- The solid drawing by tiles in the order ks: lines 1 to 11, 12 for the picture and for the list, 13; the walk's picture
+-- and count with its 64-tiles in that order, and the work buffer cleared.
+pub record OrderSays (s : List ℕ) (d : Grid) (ks o o′ w w′ : List ℕ) (r : Answer) : Type 0 where
+  pub answer : let g = gridIn d true in
+      let n = orderFault s g ks (length o) (length w) in
+      Answered n (readTape s .place) (walkedIn ks (readTape s .tape) g .clauses) r
+  pub pixels : let g = gridIn d true in
+      let n = orderFault s g ks (length o) (length w) in
+      o′ ≡ written n (picture true g (walkedIn ks (readTape s .tape) g .heights)) o
+  pub work : w′ ≡ written (orderFault s (gridIn d true) ks (length o) (length w)) (replicate (length w) 0) w
+
 -- The probe: lines 1 to 9, then 20, and the side of the full tape's value at the rounded point. It draws no picture, so
 -- its count is 0, and nothing is lent to be written.
 pub record ProbeSays (s : List ℕ) (p : Point) (r : Probed) : Type 0 where
@@ -107,3 +124,12 @@ pub record SlopesSay (s : List ℕ) (d : Grid) (o o′ : List ℕ) (p p′ : Lis
   pub work : let g = gridIn d true in
       let n = slopesFault s g (length o) (length p) (length w) in
       w′ ≡ written n (replicate (length w) 0) w
+
+-- The reason for the pixel in column i and row j of a flat picture: lines 1 to 11, then 23, then 13. "the side of the
+-- region where the walk stopped (64, 8 or 1), both ends of the range there or the value twice, and how many clauses its
+-- tape had". It draws no picture, so its count is 0; the work buffer is cleared.
+pub record ReasonSays (s : List ℕ) (d : Grid) (i j : ℕ) (w w′ : List ℕ) (r : Reason) : Type 0 where
+  pub answer : Answered (reasonFault s (gridIn d false) i j (length w)) (readTape s .place) 0 (r .answer)
+  pub figures : let g = gridIn d false in
+      reasonIn r ≡ reasonBy (reasonFault s g i j (length w)) (readTape s .tape) g i j
+  pub work : w′ ≡ written (reasonFault s (gridIn d false) i j (length w)) (replicate (length w) 0) w

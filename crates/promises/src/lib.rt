@@ -38,3 +38,14 @@ pub struct Sided {
     pub side: u8,
     pub value: f64,
 }
+
+// The reason for a pixel of a flat picture: the answer, the side of the region where the walk stopped (64, 8 or 1), both
+// ends of the range there or, at side 1, the value twice, and how many clauses its tape had; all 0 where it is refused.
+#[repr(C)]
+pub struct Reason {
+    pub answer: Answer,
+    pub side: u32,
+    pub low: i32,
+    pub high: i32,
+    pub clauses: u32,
+}

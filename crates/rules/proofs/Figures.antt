@@ -13,10 +13,11 @@ use Rattle.rules.specs.Values.{negR, smallerR, largerR, unaryRange, bina
 use Rattle.rules.specs.Values.{multipliedR, choiceOf}
 use Rattle.rules.specs.Tapes.{Tape, noRange, choicesFrom, reads, isIn, without, onClause, shortFrom, lastOut}
 use Rattle.rules.specs.Tapes.{rangeFrom, rangeOver, shortened, listOf, Raw, badSlot, badUnused, badConstant}
-use Rattle.rules.specs.Tapes.{badRead, clauseFault}
+use Rattle.rules.specs.Tapes.{badRead, clauseFault, faultFrom, readClauses, countsOk, edition, headCounts}
+use Rattle.rules.specs.Tapes.{signed4, rawIn, rawsFrom, headOk, readTape}
 use Rattle.rules.specs.Marks.{asMarked, keptBy, newMark, refined, wholeMarks, keptTape, marksOver}
 use Rattle.rules.specs.Drawings.{Grid, at, sampleAt, gridFault}
-use Rattle.rules.specs.Probes.{over, under, roundedDown, coordinateOk, pointFault, storedFloat}
+use Rattle.rules.specs.Probes.{over, under, roundedDown, coordinateOk, pointFault, probeFault, storedFloat}
 use Rattle.rules.specs.Slopes.{unarySlope, binarySlope, slopeOf, slopedOf, slopedFrom, slopedAt, Slopes, slopesAt}
 use Rattle.rules.specs.Slopes.{listed, rowSlopes, rowsSlopes, slopesOf}
 
@@ -269,6 +270,22 @@ probes =
     ∷ (answered (pos 2147483647) (pos 2147483647) 65536
     ∷ []))))))))))))))))))))
 
+-- "tested after the tape": line 20's point beside a tape of one clause by its opcode. A copy reads a slot that nothing
+-- wrote, which is line 9, the last of a tape's; x is accepted.
+abbrev pub besideTape : ℕ → ℕ → Row
+besideTape o n =
+    let c = ofBits binary64 0x7FF8_0000_0000_0000 in
+    number
+    (pos
+    (probeFault
+    (84 ∷ (80 ∷ (1 ∷ (1 ∷ (1 ∷ (0 ∷ (0 ∷ (0
+    ∷ (67 ∷ (76 ∷ (o ∷ (0 ∷ (0 ∷ (0 ∷ (0 ∷ (0 ∷ (0 ∷ (0 ∷ []))))))))))))))))))
+    (record { x = c; y = c; z = c })))
+    (pos n)
+
+abbrev pub afterTape : List Row
+afterTape = besideTape 4 9 ∷ (besideTape 1 20 ∷ [])
+
 -- Request T-07. A row of slopes: x, y, z.
 abbrev pub slopes : Slopes → ℤ → ℤ → ℤ → Row
 slopes n x y z = record { given = listed n; said = x ∷ (y ∷ (z ∷ [])) }
@@ -379,13 +396,15 @@ shaded =
 
 abbrev pub rows : List Row
 rows =
-    starred ++ worded ++ oneSlot ++ middles ++ quotients ++ dividing ++ keptForms ++ probes ++ balls ++ steep ++ shaded
+    starred ++ worded ++ oneSlot ++ middles ++ quotients ++ dividing ++ keptForms ++ probes ++ afterTape ++ balls ++ steep
+    ++ shaded
 
 pub figures : map (λ r. r .given) rows ≡ map (λ r. r .said) rows
 unfolding smaller larger sum difference product square rootFrom rootOf quotient quotientR holdsZero absoluteR squareR
     rootR productR sumR differenceR negR smallerR largerR unaryRange multipliedR binaryRange rangeOf rangeFrom rangeOver
     sideBelow sideAbove choiceOf choicesFrom reads isIn without onClause shortFrom lastOut shortened listOf sampleAt
     gridFault unaryValue binaryValue valueOf badSlot badUnused badConstant badRead clauseFault
+    faultFrom readClauses countsOk edition headCounts signed4 rawIn rawsFrom headOk readTape
     asMarked keptBy newMark refined marksOver
     ofBits coordinateOk pointFault ofInt div storedFloat
     unarySlope binarySlope slopeOf slopedOf slopedFrom slopedAt slopesAt rowSlopes rowsSlopes slopesOf

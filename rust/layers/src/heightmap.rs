@@ -72,6 +72,40 @@ impl Heightmap {
         Ok((drawn, Slopes::new(grid.width, grid.height, slopes)))
     }
 
+    /// Draws by tiles, the 64-tiles in an order of the caller's own: the same heights as [`draw`](Heightmap::draw), with
+    /// a count that may differ, since a tile is passed over only if what hides it was drawn before.
+    ///
+    /// The tiles are numbered from 0, those with the greatest z first, in each layer of tiles row by row. An order that
+    /// does not have each number just one time is [`Refusal::PictureOrOrder`]; [`Grid::tiles_from_middle`] makes one
+    /// that begins in the middle of the picture.
+    ///
+    /// ```
+    /// use layers::{Grid, Heightmap, Refusal, Tape};
+    ///
+    /// // a plate of height 100, in two tiles one above the other
+    /// let (tape, grid) = (Tape::from_text("z - 100")?, Grid::solid(1, 1, 128));
+    /// let down = Heightmap::draw_in_order(&tape, grid, &[0, 1])?;
+    /// let up = Heightmap::draw_in_order(&tape, grid, &[1, 0])?;
+    /// assert_eq!((down.picture.height_at(0, 0), down.count), (100, 21));
+    /// assert_eq!((up.picture.height_at(0, 0), up.count), (100, 24));
+    ///
+    /// assert_eq!(Heightmap::draw_in_order(&tape, grid, &[1, 1]), Err(Refusal::PictureOrOrder));
+    /// # Ok::<(), Box<dyn std::error::Error>>(())
+    /// ```
+    pub fn draw_in_order(tape: &Tape, grid: Grid, order: &[u16]) -> Result<Drawn<Heightmap>, Refusal> {
+        Heightmap::draw_in_order_with(tape, grid, order, &mut Work::new())
+    }
+
+    /// Draws in an order as [`draw_in_order`](Heightmap::draw_in_order), in memory that is there already.
+    pub fn draw_in_order_with(
+        tape: &Tape,
+        grid: Grid,
+        order: &[u16],
+        work: &mut Work,
+    ) -> Result<Drawn<Heightmap>, Refusal> {
+        Heightmap::drawn(grid, |picture| raw::tile_solid_in_order(tape.as_bytes(), grid, order, picture, work.lend()))
+    }
+
     fn drawn(grid: Grid, call: impl FnOnce(&mut [u16]) -> Answer) -> Result<Drawn<Heightmap>, Refusal> {
         let (width, height) = sizes(grid);
         let (heights, count) = filled(width * height, call)?;
@@ -173,6 +207,26 @@ mod tests {
     }
 
     #[test]
+    fn every_order_draws_the_same_heights() {
+        let mut work = Work::new();
+        for grid in [Grid::solid(70, 20, 90), Grid::solid(130, 70, 129).origin(0, 0, crate::fixed(30.0))] {
+            let plain = Heightmap::draw(&stairs(), grid).unwrap();
+            let mut order: Vec<u16> = (0..grid.tile_count() as u16).collect();
+            assert_eq!(Heightmap::draw_in_order(&stairs(), grid, &order).unwrap(), plain);
+            order.reverse();
+            let backward = Heightmap::draw_in_order_with(&stairs(), grid, &order, &mut work).unwrap();
+            assert_eq!(backward.picture, plain.picture);
+            assert!(backward.count > plain.count);
+            // each column of tiles from the top, as in the walk itself
+            assert_eq!(Heightmap::draw_in_order(&stairs(), grid, &grid.tiles_from_middle()).unwrap(), plain);
+            for wrong in [&order[1..], &[&order[..], &[0]].concat(), &[&order[1..], &[order[1]]].concat(), &[]] {
+                let refused = Heightmap::draw_in_order(&stairs(), grid, wrong);
+                assert_eq!(refused, Err(Refusal::PictureOrOrder), "{wrong:?}");
+            }
+        }
+    }
+
+    #[test]
     fn sizes_pass_up_to_the_limit() {
         let map = Heightmap::draw(&stairs(), Grid::solid(1, 1, 512).origin(i32::MAX, 0, 0).step(1, 1, 1)).unwrap();
         assert_eq!(map.picture.height_at(0, 0), 512);
@@ -182,6 +236,8 @@ mod tests {
             assert_eq!(Heightmap::draw_full(&stairs(), grid), Err(Refusal::SizeOutOfRange), "{width} deep {depth}");
             let sloped = Heightmap::draw_with_slopes(&stairs(), grid);
             assert_eq!(sloped, Err(Refusal::SizeOutOfRange), "{width} deep {depth}");
+            let ordered = Heightmap::draw_in_order(&stairs(), grid, &grid.tiles_from_middle());
+            assert_eq!(ordered, Err(Refusal::SizeOutOfRange), "{width} deep {depth}");
         }
     }
 

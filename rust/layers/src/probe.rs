@@ -18,7 +18,8 @@ impl Tape {
     /// The formula at the point (x, y, z), each coordinate rounded down to a unit of 1/65,536.
     ///
     /// A coordinate that is not a number, infinite, or above 32,767 in magnitude is
-    /// [`Refusal::CoordinateOutOfRange`].
+    /// [`Refusal::CoordinateOutOfRange`]. The floating-point state is as the ABI has it: where C code of the same thread
+    /// has set flush-to-zero or denormals-are-zero, −1e-310 is not rounded down but taken for 0.
     ///
     /// ```
     /// use layers::{fixed, Clause, Probe, Refusal, Tape};

@@ -181,6 +181,16 @@ calls! {
     /// The same picture as [`draw_solid`]'s, drawn by tiles, with at least [`WORK`] bytes to work in.
     fn tile_solid(tape: &[u8], grid: Grid, picture: &mut [u16], work: &mut [u8]) -> Answer;
 
+    /// The picture of [`tile_solid`] with its 64-tiles drawn in an order of the caller's own: the numbers of all, each one
+    /// time. The tiles are numbered from 0, those with the greatest z first, in each layer of tiles row by row.
+    fn tile_solid_in_order(
+        tape: &[u8],
+        grid: Grid,
+        order: &[u16],
+        picture: &mut [u16],
+        work: &mut [u8],
+    ) -> Answer;
+
     /// The picture and the count of [`tile_solid`], and three slopes a pixel: how much the formula grows along x, y and
     /// z at the visible sample, in units of 1/65,536 for each 1; three zeros where the height is 0.
     fn tile_slopes(tape: &[u8], grid: Grid, picture: &mut [u16], slopes: &mut [i32], work: &mut [u8]) -> Answer;

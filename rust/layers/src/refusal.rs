@@ -6,7 +6,7 @@ use std::error::Error;
 use std::fmt;
 
 /// Makes [`Refusal`] and all that is known of each line from one row a line: the number, the name (with `{ clause }`
-/// where the place counts), what the README's table says, and the message, before which `clause N` is put where there
+/// where the place counts), what the table of the formats says, and the message, before which `clause N` is put where there
 /// is one.
 macro_rules! refusals {
     (
@@ -65,7 +65,7 @@ macro_rules! refusals {
             }
         }
 
-        /// The table, as the README has it.
+        /// The table, as the page of the formats has it.
         #[cfg(test)]
         const LINES: &[(u8, &str)] = &[$(($number, $line)),*];
     };
@@ -79,8 +79,8 @@ refusals! {
     /// A line of the core's table of refusals, in the table's order. Clauses are counted from 0.
     ///
     /// A [`Tape`](crate::Tape) meets lines 1 to 9, or as text 17 to 19, a drawing of it 10 and 11, a probe 20, a union
-    /// 21, the reason for a pixel 23. Lines 12 to 14 are about lent memory, so only the calls of [`raw`](crate::raw)
-    /// meet them, and 15 and 16 are about the input of the program `drawlayer`.
+    /// 21, the reason for a pixel 23. Lines 12 to 14 are about lent memory, so but for an order of tiles, which is 12
+    /// too, only the calls of [`raw`](crate::raw) meet them; 15 and 16 are about the input of the program `drawlayer`.
     ///
     /// ```
     /// use layers::{Refusal, Tape};
@@ -117,9 +117,10 @@ refusals! {
     11 SampleOutOfRange, "a step below 1, or an origin, z or last sample outside −2,147,483,647 to 2,147,483,647",
         "steps must be 1 or more, and the origin and the last sample of each axis, half a step beyond where its cell \
          begins, {LEAST} to {GREATEST}: move the grid, or take smaller steps";
-    12 PictureLength, "picture or slope buffer not of the exact length",
+    12 PictureOrOrder, "picture or slope buffer not of the exact length; order list not of every tile one time",
         "the picture or slope buffer has the wrong length: a bitmap has width / 8 bytes, rounded up, for each row, \
-         a heightmap one height for each pixel, slopes three numbers for each pixel";
+         a heightmap one height for each pixel, slopes three numbers for each pixel; or the order does not list every \
+         64-tile of the grid just one time";
     13 WorkLength, "work buffer below 32,768 bytes",
         "the work buffer is too short: it needs {WORK} bytes";
     14 OutputLength, "packing, unpacking, merging, text or file: output not of the exact length",
@@ -169,6 +170,8 @@ mod tests {
     use super::*;
     use crate::{Grid, raw};
     use std::collections::HashSet;
+    use std::fs;
+    use std::path::Path;
 
     /// Every refusal, in table order.
     fn all() -> impl Iterator<Item = Refusal> {
@@ -182,11 +185,18 @@ mod tests {
         assert_eq!(all().map(Refusal::number).collect::<Vec<_>>(), numbers);
     }
 
+    /// The page of the formats, or the README where that page is not there.
+    fn page() -> String {
+        let root = Path::new(env!("CARGO_MANIFEST_DIR")).join("../..");
+        let pages = ["docs/FORMATS.md", "README.md"].map(|page| root.join(page));
+        fs::read_to_string(pages.iter().find(|page| page.exists()).expect("a page")).expect("a page to read")
+    }
+
     #[test]
-    fn the_readme_has_the_table() {
-        let readme = include_str!("../../../README.md");
-        let table = readme.split("\n## Refusals\n").nth(1).expect("a section").split("\n## ").next();
-        let rows: Vec<&str> = table.into_iter().flat_map(str::lines).filter(|line| line.starts_with("| ")).collect();
+    fn the_page_has_the_table() {
+        let page = page();
+        let table = page.lines().skip_while(|&line| line != "| number | if |").take_while(|line| line.starts_with('|'));
+        let rows: Vec<&str> = table.filter(|line| line.starts_with("| ")).collect();
         let expected = LINES.iter().map(|(number, line)| format!("| {number} | {line} |"));
         assert_eq!(rows, [String::from("| number | if |")].into_iter().chain(expected).collect::<Vec<_>>());
     }
@@ -230,14 +240,14 @@ mod tests {
         };
         // x is nowhere below 0, so the walk ends after the one clause of its one tile
         assert_eq!(tile(2, WORK), Ok(1));
-        assert_eq!(tile(3, WORK), Err(Refusal::PictureLength));
+        assert_eq!(tile(3, WORK), Err(Refusal::PictureOrOrder));
         assert_eq!(tile(2, WORK - 1), Err(Refusal::WorkLength));
         let sloped = |picture: usize, slopes: usize, work: usize| {
             let (grid, mut lent) = (Grid::solid(3, 2, 1), (vec![0; picture], vec![0; slopes], vec![0; work]));
             raw::tile_slopes(tape.as_bytes(), grid, &mut lent.0, &mut lent.1, &mut lent.2).into_result()
         };
         assert_eq!(sloped(6, 18, WORK), Ok(1));
-        assert_eq!([(5, 18), (6, 17), (6, 6)].map(|(p, s)| sloped(p, s, 0)), [Err(Refusal::PictureLength); 3]);
+        assert_eq!([(5, 18), (6, 17), (6, 6)].map(|(p, s)| sloped(p, s, 0)), [Err(Refusal::PictureOrOrder); 3]);
         assert_eq!(sloped(6, 18, WORK - 1), Err(Refusal::WorkLength));
         assert_eq!(raw::unpack_tape(tape.as_bytes(), &mut [0; 4]).answer.into_result(), Err(Refusal::OutputLength));
         let merge = |len: usize| raw::merge_tapes(tape.as_bytes(), tape.as_bytes(), &mut vec![0; len]).into_result();

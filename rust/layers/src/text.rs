@@ -186,6 +186,15 @@ mod tests {
         assert_eq!(shown(&vec!["x"; 600].join("+")), "");
     }
 
+    /// As long as any that `./draw` takes: there is room behind each beginning.
+    #[test]
+    fn a_long_text_that_ends_too_early() {
+        let text = "x+".repeat(30_730);
+        assert_eq!(Tape::from_text(&text).unwrap_err().at(), Some(61_460));
+        assert!(shown(&text).starts_with("the text ends too early, at byte 61460, after `"));
+        assert_eq!(Tape::from_text(&format!("{text}+")).unwrap_err().at(), Some(61_460));
+    }
+
     #[test]
     fn the_refusal_is_the_source() {
         let error = "x y".parse::<Tape>().unwrap_err();

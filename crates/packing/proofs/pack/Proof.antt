@@ -41,9 +41,11 @@ fits c = omega (arith, c .if2 .left, length-is (c .before))
 returns : tie.Need-returns
 returns c =
     let a = at-start (c .before) .args in
-    let v = c .before .check-list .ensures in
-    read-refuses (readList (a .slots) (a .list .now)) (bytesOf (a .slots) (a .list .now)) (a .out .now)
-    (list-placed (a .slots) (a .list .now)) _ _ (c .if1 .taken) (v .number) (v .place)
+    let v = c .before .check-list .ensures in (
+      read-refuses (readList (a .slots) (a .list .now)) (bytesOf (a .slots) (a .list .now)) (a .out .now)
+          (list-placed (a .slots) (a .list .now)) _ _ (c .if1 .taken) (v .number) (v .place),
+      λ e. absurd (c .if1 .taken e),
+    )
 
 cast-if2 : tie.Need-cast-if2
 cast-if2 c = search needs
@@ -57,9 +59,11 @@ add-if2 c = search needs
 returns-2 : tie.Need-returns-2
 returns-2 c =
     let e = c .before in
-    let a = at-start (e .before) .args in
-    length-refuses (readList (a .slots) (a .list .now)) (bytesOf (a .slots) (a .list .now)) (a .out .now) (accepted e)
-    (λ h. omega (arith, h, c .if2 .taken, length-is e))
+    let a = at-start (e .before) .args in (
+      length-refuses (readList (a .slots) (a .list .now)) (bytesOf (a .slots) (a .list .now)) (a .out .now) (accepted e)
+          (λ h. omega (arith, h, c .if2 .taken, length-is e)),
+      λ f. absurd (omega arith),
+    )
 
 write-tape-requires : tie.Need-write-tape-requires
 write-tape-requires c κs =
@@ -80,9 +84,11 @@ returns-3 c =
     let w = c .before .before .before in
     let f = sized c in
     let e = f .before in
-    let a = at-start (e .before) .args in
-    copied (readList (a .slots) (a .list .now)) (bytesOf (a .slots) (a .list .now)) (a .out .now) (accepted e) (fits f)
-    (w .write-tape .last .1 .1 .1 .0) (w .write-tape .ensures) _ (e .before .check-list .ensures .slots)
+    let a = at-start (e .before) .args in (
+      copied (readList (a .slots) (a .list .now)) (bytesOf (a .slots) (a .list .now)) (a .out .now) (accepted e) (fits f)
+          (w .write-tape .last .1 .1 .1 .0) (w .write-tape .ensures .0) _ (e .before .check-list .ensures .slots),
+      λ h. w .write-tape .ensures .1,
+    )
 
 pub pack-spec : {M : Type 1} → statement M
 pack-spec =

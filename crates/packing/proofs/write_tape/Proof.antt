@@ -10,12 +10,14 @@ use Rattle.tape.specs.Clauses.{rawOf}
 use Rattle.packing.specs.Packing.{bytesOf}
 use Rattle.packing.proofs.Writing.{Written}
 use Rattle.packing.proofs.Packing.{ListSizes, list-sizes, bytes-start, clause-bytes, bytes-next, bytes-done}
+use Rattle.packing.proofs.Numbers.{Gathered, in-words, none-gathered, one-gathered, all-gathered}
 use Rattle.packing.proofs.write_tape.Statement.{statement}
 use Rattle.packing.proofs.write_tape.Tie as tie
 
 abbrev Inv-loop : tie.InvT-loop
 Inv-loop slots list count out₀ i₀ out i =
-    (i ≤ count) × Written clauseBytes (bytesOf slots list) slots i (8 + 10 * i) (rawsOf (drop (5 * i) list)) out
+    (i ≤ count)
+    × (Written clauseBytes (bytesOf slots list) slots i (8 + 10 * i) (rawsOf (drop (5 * i) list)) out × Gathered list i)
 
 abbrev μ-loop : tie.MeasureT-loop
 μ-loop slots list count out₀ i₀ out i = count - i
@@ -49,8 +51,11 @@ loop-holds c =
     let s = h .before .before .before in
     let a = s .args in (
       search needs,
-      bytes-start (a .slots) (a .count) (a .list .now) (a .out .now) (s .pre) (h .put-head .last .0)
-          (h .put-head .ensures),
+      (
+        bytes-start (a .slots) (a .count) (a .list .now) (a .out .now) (s .pre) (h .put-head .last .0)
+            (h .put-head .ensures),
+        none-gathered (a .list .now),
+      ),
     )
 
 -- What a turn has: the clause's index is below the count, and the output has room for it.
@@ -61,7 +66,7 @@ module _ (c : tie.In-loop Inv-loop μ-loop) where
   room : 8 + 10 * c .before .loop .i + 10 ≤ length (c .before .loop .out)
   room =
       let z = here-sizes in
-      omega (arith, z .bytes, at-start (c .before) .pre .size, c .before .loop .inv .1 .size, c .loop-test .taken)
+      omega (arith, z .bytes, at-start (c .before) .pre .size, c .before .loop .inv .1 .0 .size, c .loop-test .taken)
 
 cast-fields-of : tie.Need-cast-fields-of Inv-loop μ-loop
 cast-fields-of c = omega (arith, here-sizes c .clauses, c .loop-test .taken)
@@ -89,7 +94,7 @@ put-clause-requires c κs =
     let a = at-start l .args in (
       room d,
       clause-bytes (bytesOf (a .slots) (a .list .now)) (a .slots) (l .loop .i) (a .list .now) (l .loop .out)
-          (l .loop .inv .1)
+          (l .loop .inv .1 .0)
           (rawOf (r .fields-of .result)) (r .fields-of .ensures) (here-sizes d .slots),
     )
 
@@ -107,22 +112,28 @@ loop-again c =
     let l = d .before in
     let a = at-start l .args in (
       omega (arith, d .loop-test .taken),
-      bytes-next (bytesOf (a .slots) (a .list .now)) (a .slots) (l .loop .i) (a .list .now) (l .loop .out)
-          (l .loop .inv .1)
-          (rawOf (r .fields-of .result)) (r .fields-of .ensures) (p .put-clause .last .0) (p .put-clause .ensures)
-          (room d),
+      (
+        bytes-next (bytesOf (a .slots) (a .list .now)) (a .slots) (l .loop .i) (a .list .now) (l .loop .out)
+            (l .loop .inv .1 .0)
+            (rawOf (r .fields-of .result)) (r .fields-of .ensures) (p .put-clause .last .0) (p .put-clause .ensures)
+            (room d),
+        one-gathered (a .list .now) (l .loop .i) (l .loop .inv .1 .1) (rawOf (r .fields-of .result)) _
+            (r .fields-of .ensures) (in-words (r .fields-of .result) (r .fields-of .ok .1 .1)),
+      ),
     )
 
 same-length : tie.Need-same-length Inv-loop μ-loop
-same-length c = omega (arith, c .before .loop .inv .1 .size, at-start (c .before) .pre .size)
+same-length c = omega (arith, c .before .loop .inv .1 .0 .size, at-start (c .before) .pre .size)
 
 returns : tie.Need-returns Inv-loop μ-loop
 returns c =
     let l = c .before in
     let a = at-start l .args in
-    bytes-done (bytesOf (a .slots) (a .list .now)) (a .slots) (l .loop .i) (a .list .now) (l .loop .out)
-    (l .loop .inv .1)
-    (a .count) (sizes (at-start l) .numbers) (c .loop-test .left)
+    let n = sizes (at-start l) .numbers in (
+      bytes-done (bytesOf (a .slots) (a .list .now)) (a .slots) (l .loop .i) (a .list .now) (l .loop .out)
+          (l .loop .inv .1 .0) (a .count) n (c .loop-test .left),
+      all-gathered (a .list .now) (l .loop .i) (l .loop .inv .1 .1) (a .count) n (c .loop-test .left),
+    )
 
 pub write-tape-spec : {M : Type 1} → statement M
 write-tape-spec =

@@ -63,12 +63,14 @@ impl Scratch {
         let top = Path::new(env!("CARGO_TARGET_TMPDIR")).join("draw").join(test);
         let _ = fs::remove_dir_all(&top);
         let scratch = Scratch(top);
-        for folder in ["repo/target/bin", "repo/target/cargo/release", "repo/tools", "bin", "room"] {
+        for folder in ["repo/target/bin", "repo/target/cargo/release", "repo/tools", "repo/docs", "bin", "room"] {
             fs::create_dir_all(scratch.at(folder)).unwrap();
         }
-        for file in ["README.md", "tools/proving.sh"] {
-            fs::copy(in_repository(file), scratch.at("repo").join(file)).unwrap();
-        }
+        fs::copy(in_repository("tools/proving.sh"), scratch.at("repo/tools/proving.sh")).unwrap();
+        // the page that has the table of refusals
+        let page =
+            ["docs/FORMATS.md", "README.md"].into_iter().find(|page| in_repository(page).exists()).expect("a page");
+        fs::copy(in_repository(page), scratch.at("repo").join(page)).unwrap();
         fs::write(scratch.at("repo/crates.txt"), CRATES).unwrap();
         let draw = fs::read_to_string(in_repository("draw")).unwrap();
         scratch.script("repo/draw", draw.strip_prefix("#!/bin/sh\n").expect("a script"));
@@ -178,6 +180,102 @@ fn a_full_disk() {
     s.drew_nothing(&s.run(command), complaint);
 }
 
+/// A text whose beginning is another formula: with the `+ 100` it has no material. Its tape is long too.
+fn text_of_two() -> String {
+    format!("{}x - 500{}+ 10000", "x + ".repeat(300), " ".repeat(30_000))
+}
+
+#[test]
+fn a_full_disk_and_a_text() {
+    let s = Scratch::new("a_full_disk_and_a_text");
+    s.input("x.txt", text_of_two().as_bytes());
+    // room for a half of the text
+    let mut command = s.command("sh");
+    command.args(["-c", "trap '' XFSZ; ulimit -f 32; exec ../repo/draw x.txt"]);
+    let ran = s.run(command);
+    assert_eq!((ran.code, &ran.said[..], s.pictures()), (Some(1), "", vec![]));
+    assert!(ran.complaint.contains("draw: x.txt was not read whole, or not copied to "), "{}", ran.complaint);
+}
+
+/// Each of the tools that copy a text leaves 4,096 bytes of it and says that all is well, or that it is not.
+#[test]
+fn a_copy_that_is_cut() {
+    for (tool, status) in
+        [("head", 0), ("sed", 0), ("tr", 0), ("cat", 0), ("head", 1), ("sed", 1), ("tr", 1), ("cat", 1)]
+    {
+        let s = Scratch::new("a_copy_that_is_cut");
+        s.input("x.txt", text_of_two().as_bytes());
+        s.script(&format!("bin/{tool}"), &format!("PATH=${{PATH#*:}}\n{tool} \"$@\" | head -c 4096\nexit {status}"));
+        let ran = s.draw(&["x.txt"]);
+        assert_eq!((ran.code, &ran.said[..], s.pictures()), (Some(1), "", vec![]), "{tool}: {}", ran.complaint);
+        assert!(ran.complaint.ends_with("nothing is drawn. Is the disk full?\n"), "{tool}: {}", ran.complaint);
+    }
+    let s = Scratch::new("a_copy_that_is_whole");
+    s.input("x.txt", text_of_two().as_bytes());
+    s.drew_as(&s.draw(&["x.txt"]), "x.pbm", &packed(&text_of_two(), USUAL));
+}
+
+/// A tape without the reader's last word, or with that of another.
+#[test]
+fn a_tape_without_its_last_word() {
+    let s = Scratch::new("a_tape_without_its_last_word");
+    s.input("x.txt", b"x");
+    let reader = program::built("readtext").get_program().to_str().unwrap().to_string();
+    for word in ["true", "echo 17 >&2", "echo none >&2"] {
+        s.script("repo/target/bin/readtext", &format!("{reader} 2> /dev/null\n{word}"));
+        let complaint = "draw: x.txt: the tape was not written whole: nothing is drawn. Is the disk full?\n";
+        s.drew_nothing(&s.draw(&["x.txt"]), complaint);
+    }
+    s.script("repo/target/bin/readtext", &format!("{reader} 2> /dev/null\necho 18 >&2"));
+    s.drew_as(&s.draw(&["x.txt"]), "x.pbm", &packed("x", USUAL));
+}
+
+/// What was drawn of a name goes when the next input of that name is refused.
+#[test]
+fn no_older_picture_behind_a_refusal() {
+    let s = Scratch::new("no_older_picture_behind_a_refusal");
+    for text in ["x -", "# layer 8 8 from 0 0 0 step 0\nx", "# layer 600 8 from 0 0 0 step 1\nx"] {
+        s.input("x.txt", b"x");
+        s.drew_as(&s.draw(&["x.txt"]), "x.pbm", &packed("x", USUAL));
+        s.input("x.txt", text.as_bytes());
+        assert_eq!(s.draw(&["x.txt"]).code, Some(1));
+        assert_eq!(s.pictures(), Vec::<String>::new(), "{text}");
+    }
+}
+
+/// What is no option and no file is said before anything is built.
+#[test]
+fn options_that_are_none() {
+    let s = Scratch::new("options_that_are_none");
+    s.input("x.part", &part());
+    s.script("bin/rt", "touch ../built; exit 1");
+    for (inputs, option) in [(&["-o", "x.part"][..], "-o"), (&["--version"], "--version"), (&["x.part", "-v"], "-v")] {
+        let said =
+            format!("draw: {option} is no option, and no file that is here. './draw --help' says what there is\n");
+        s.drew_nothing(&s.draw(inputs), &said);
+    }
+    let said = "draw: standard input is not read: give the name of a file. './draw --help' says more\n";
+    s.drew_nothing(&s.draw(&["-"]), said);
+    assert!(!s.at("built").exists());
+}
+
+/// A formula in a file of another name is no part, and this is said; bytes that are no text are just refused.
+#[test]
+fn a_formula_of_another_name() {
+    let s = Scratch::new("a_formula_of_another_name");
+    let refused =
+        |name: &str| format!("draw: {name}: refused 15 at 0 (program: input below 32 bytes or grid mark wrong)\n");
+    let hint = |name: &str| format!("draw: {name}: a formula as text has a name that ends in .txt\n");
+    for name in ["ring", "ring.formula", "ring.TXT"] {
+        s.input(name, format!("{RING}\n").as_bytes());
+        s.drew_nothing(&s.draw(&[name]), &(refused(name) + &hint(name)));
+    }
+    for bytes in [&b""[..], b"x\x00", &part()[..31]] {
+        s.input("x.part", bytes);
+        s.drew_nothing(&s.draw(&["x.part"]), &refused("x.part"));
+    }
+}
+
 #[test]
 fn a_picture_without_its_count() {
     let s = Scratch::new("a_picture_without_its_count");
@@ -261,6 +359,31 @@ fn an_interruption() {
     assert!(Command::new("sh").args(["-c", &group]).status().unwrap().success());
     let ran = run.end();
     assert_eq!((ran.code, s.pictures()), (Some(143), vec![]));
+}
+
+/// As by `kill`: the signal goes to the script alone, which hands it on, to the program and to rt.
+#[test]
+fn a_signal_reaches_what_is_at_work() {
+    for at_work in ["repo/target/bin/drawlayer", "bin/rt"] {
+        let s = Scratch::new("a_signal_reaches_what_is_at_work");
+        s.input("x.part", &part());
+        let (started, ended) = (s.at("started"), s.at("ended"));
+        let body = format!(
+            "trap 'touch {}; exit 1' TERM\ntouch {}\nwhile :; do sleep 0.02; done",
+            ended.display(),
+            started.display()
+        );
+        s.script(at_work, &body);
+        let mut command = s.command(s.at("repo/draw"));
+        command.arg("x.part");
+        let run = s.start(command, "run");
+        wait_for(&started);
+        let kill = format!("kill -s TERM {}", run.child.id());
+        assert!(Command::new("sh").args(["-c", &kill]).status().unwrap().success());
+        let ran = run.end();
+        assert_eq!((ran.code, &ran.complaint[..], s.pictures()), (Some(143), "", vec![]), "{at_work}");
+        wait_for(&ended);
+    }
 }
 
 /// Waits until the file is there, for at most 20 seconds.
@@ -424,6 +547,9 @@ fn texts_with_their_grids() {
             packed("abs(y) - 2 + z", solid),
         ),
         ("d.txt", "# layering: none\nx".into(), "d.pbm", packed("x", USUAL)),
+        ("e.txt", "# layer of glue\n# Solid as a rock\nx".into(), "e.pbm", packed("x", USUAL)),
+        ("f.txt", format!("# layer of glue\n{}\nx - y", lines.to_uppercase()), "f.pbm", packed("x - y", half)),
+        ("g.txt", format!("{lines} 0.5 0\nx"), "g.pbm", packed("x", Grid { steps: [32_768, 32_768, 0], ..half })),
     ];
     for (name, text, picture, input) in texts {
         s.input(name, text.as_bytes());
@@ -460,22 +586,53 @@ fn complaint(test: &str, text: &[u8]) -> String {
     ran.complaint
 }
 
+/// Where a broken text stopped the reader: what the complaint says behind the refusal.
+fn stop_shown(test: &str, text: &[u8]) -> String {
+    let complained = complaint(test, text);
+    let refused = "draw: x.txt: refused 17 at 0 (text: the rules of a formula broken)\n";
+    complained.strip_prefix(refused).unwrap_or_else(|| panic!("{complained}")).to_string()
+}
+
 #[test]
 fn a_broken_text() {
-    let refused = "draw: x.txt: refused 17 at 0 (text: the rules of a formula broken)\n";
-    let complained = complaint("a_broken_text", b"# a part\nmax(x,\n  min(y; z))\n");
     assert_eq!(
-        complained,
-        format!("{refused}draw: x.txt, line 3, byte 8: the reader stopped here\n      min(y; z))\n           ^\n")
-    );
-    let complained = complaint("a_text_of_other_bytes", b"x + 1\xFF\x00");
-    assert_eq!(
-        complained,
-        format!("{refused}draw: x.txt, line 1, byte 6: the reader stopped here\n    x + 1??\n         ^\n")
+        stop_shown("a_broken_text", b"# a part\nmax(x,\n  min(y; z))\n"),
+        "draw: x.txt, line 3, byte 8: the reader stopped here\n      min(y; z))\n           ^\n"
     );
     for (test, text) in [("an_empty_text", ""), ("a_text_that_ends_early", "# layer 8 8 from 0 0 0 step 1\nroot(x\n")] {
-        assert_eq!(complaint(test, text.as_bytes()), format!("{refused}draw: x.txt: the text ends too early\n"));
+        assert_eq!(stop_shown(test, text.as_bytes()), "draw: x.txt: the text ends too early\n");
     }
+}
+
+/// Bytes that cannot be seen are named.
+#[test]
+fn a_text_of_other_bytes() {
+    let shown: [(&[u8], &str); 7] = [
+        (b"x + 1\xFF\x00", "byte 6, the byte FF: the reader stopped here\n    x + 1??\n         ^\n"),
+        (b"x + 1\x00\xFF", "byte 6, a zero byte: the reader stopped here\n    x + 1??\n         ^\n"),
+        (b"x + \x00", "byte 5, a zero byte: the reader stopped here\n    x + ?\n        ^\n"),
+        (b"x\t+ 1", "byte 2, a tab: write spaces: the reader stopped here\n    x + 1\n     ^\n"),
+        (b"x +\t", "byte 4, a tab: write spaces: the reader stopped here\n    x + \n       ^\n"),
+        (
+            b"\xEF\xBB\xBFx + 1",
+            "byte 1, a byte order mark: save the text without it: the reader stopped here\n    ???x + 1\n    ^\n",
+        ),
+        (b"x + \xC3\xA9", "byte 5, the byte C3: the reader stopped here\n    x + ??\n        ^\n"),
+    ];
+    for (text, expected) in shown {
+        assert_eq!(stop_shown("a_text_of_other_bytes", text), format!("draw: x.txt, line 1, {expected}"), "{text:?}");
+    }
+}
+
+/// A text of the greatest length has room behind its beginnings for what is tried there.
+#[test]
+fn a_long_text_that_is_broken() {
+    let text = "x+".repeat(30_730);
+    assert_eq!(stop_shown("a_long_text_that_ends_early", text.as_bytes()), "draw: x.txt: the text ends too early\n");
+    let text = format!("{}x;", "x+".repeat(30_739));
+    assert_eq!(text.len(), 61_480);
+    let shown = stop_shown("a_long_text_that_is_broken", text.as_bytes());
+    assert!(shown.starts_with("draw: x.txt, line 1, byte 61480: the reader stopped here\n"), "{shown}");
 }
 
 #[test]
@@ -492,27 +649,37 @@ fn a_text_too_deep_or_too_large() {
 
 #[test]
 fn a_grid_that_is_none() {
-    let usual = "# layer 8 8 from 0 0 0 step 1";
+    let form =
+        "the grid is not '# layer WIDTH HEIGHT from X Y Z step S' or '# solid WIDTH HEIGHT DEPTH from X Y Z step S'";
     let grids = [
-        "# layer 8 8 from 0 0 step 1",
-        "# layer 8 8 from 0 0 0 step",
-        "# layer 8 8 from 0 0 0 step 1 1",
-        "# layer 8 -8 from 0 0 0 step 1",
-        "# layer 8 65536 from 0 0 0 step 1",
-        "# layer 8 8 from 0 0 1e3 step 1",
-        "# layer 8 8 from 0 0 32768 step 1",
-        "# solid 8 8 from 0 0 0 step 1",
-        "# solid 8 8 0 from 0 0 0 step 1",
-        &format!("{usual}\n{usual}"),
+        ("# layer 8 8 from 0 0 step 1", form),
+        ("# layer 8 8 from 0 0 0 step", form),
+        ("# layer 8 8 from 0 0 0 step 1 1", form),
+        ("# layer 8 from 0 0 0 step 1", form),
+        ("# layer wide and high from 0 0 0 step 1", form),
+        ("# solid 8 8 from 0 0 0 step 1", form),
+        ("# Layer 3 of glue", form),
+        ("# layer 8 -8 from 0 0 0 step 1", "a size is 1 to 512, not -8"),
+        ("# layer 8 65536 from 0 0 0 step 1", "a size is 1 to 512, not 65536"),
+        ("# solid 8 8 0 from 0 0 0 step 1", "a size is 1 to 512, not 0"),
+        ("# layer 8 8 from 0 0 1e3 step 1", "no number of a grid is written 1e3, but as -12.5 or 3"),
+        ("# layer 8 8 from 0 0 32768 step 1", "32768 is outside -32,768 to 32,768"),
+        ("# layer 8 8 from 0 0 0 step 0.000001", "the step 0.000001 is below the smallest, 1/65,536"),
+        ("# solid 8 8 8 from 0 0 0 step 1 1 -1", "the step -1 is below the smallest, 1/65,536"),
     ];
-    let expected = "draw: x.txt: the grid is not '# layer WIDTH HEIGHT from X Y Z step S' or '# solid WIDTH HEIGHT DEPTH \
-                    from X Y Z step S'\n";
-    for grid in grids {
-        assert_eq!(complaint("a_grid_that_is_none", format!("{grid}\nx").as_bytes()), expected, "{grid}");
+    for (grid, why) in grids {
+        let expected = format!("draw: x.txt, line 2: {why}\n");
+        assert_eq!(complaint("a_grid_that_is_none", format!("# a part\n{grid}\nx").as_bytes()), expected, "{grid}");
     }
+    let usual = "# layer 8 8 from 0 0 0 step 1";
+    let complained = complaint("a_second_grid", format!("{usual}\nx\n{usual}").as_bytes());
+    assert_eq!(complained, "draw: x.txt, line 3: a second grid\n");
     // the program's own refusals
     let complained = complaint("a_grid_too_large", b"# layer 600 8 from 0 0 0 step 1\nx");
     assert_eq!(complained, "draw: x.txt: refused 10 at 0 (a size not 1 to 512)\n");
+    let complained = complaint("a_grid_too_far", b"# layer 512 8 from 32700 0 0 step 1\nx");
+    assert!(complained.starts_with("draw: x.txt: refused 11 at 0 (a step below 1, "), "{complained}");
+    assert!(complained.ends_with("; all counted in units of 1/65,536)\n"), "{complained}");
 }
 
 #[test]

@@ -1,7 +1,6 @@
 //! The inputs of the later calls, by the slow side alone: those that should be accepted are, the others meet every line
 //! of their call, and each planted fault shows in some of them.
 
-use checks::order::Ordered;
 use checks::plate::{self, Changing};
 use checks::random::Random;
 use checks::swept::Sweeping;
@@ -10,7 +9,7 @@ use layers::raw;
 use slow::call::Answer;
 use slow::fault::{self, Plant};
 use slow::plate::{PLACE, PLACES, afresh};
-use slow::{order, plate as slow_plate, swept, table as slow_table};
+use slow::{plate as slow_plate, swept, table as slow_table};
 use std::collections::BTreeSet;
 use std::fmt::Debug;
 
@@ -46,22 +45,6 @@ fn all_show<F: Plant + Debug, C>(
         let shows = (0..cases).any(|i| compare(&of[i % of.len()](&mut r), &mut noise, fault).is_err());
         assert!(shows, "{fault:?} does not show");
     }
-}
-
-fn ordered(case: &Ordered, noise: &mut Random, fault: Option<order::Fault>) -> Result<Answer, String> {
-    let grid = &case.drawing.grid;
-    case.compare(noise, |tape, _, list, picture, work| {
-        raw(planted(fault, || order::tile_solid_in_order(tape, grid, list, picture, work)))
-    })
-}
-
-#[test]
-fn orders() {
-    let number = |case: &Ordered, noise: &mut Random| ordered(case, noise, None).expect("the same call").number;
-    assert_eq!(met(100, Ordered::random, number), [0]);
-    assert_eq!(met(1_500, Ordered::damaged, number), [0, 1, 2, 3, 4, 5, 6, 7, 8, 9, 10, 11, 12, 13]);
-    let kinds = [Ordered::random, Ordered::damaged];
-    all_show(order::Fault::ALL, 400, &kinds, |case, noise, fault| ordered(case, noise, Some(fault)).map(drop));
 }
 
 fn sweeping(case: &Sweeping, noise: &mut Random, fault: Option<swept::Fault>) -> Result<Answer, String> {

@@ -9,6 +9,7 @@ mod figures;
 mod inputs;
 mod lanes;
 mod merging;
+mod order;
 mod probe;
 mod program;
 mod reason;

@@ -1,4 +1,5 @@
 //! The program against the slow one: on the inputs of every series, on damaged records; short, closed and full pipes.
+//! And of the reader of texts what does not hang on the text: reads and writes that fail.
 
 use checks::drawing::{ARITHMETIC, DAMAGED, RANDOM, SHAPES, Series, WIDE};
 use checks::program::{self, check, compare, damaged_input, flat_input, input};
@@ -9,7 +10,7 @@ use std::io::Write;
 use std::os::fd::OwnedFd;
 use std::os::unix::net::UnixStream;
 use std::path::Path;
-use std::process::{Child, Command, Stdio};
+use std::process::{Child, Command, Output, Stdio};
 use std::time::Duration;
 
 fn same(input: &[u8]) -> u8 {
@@ -204,6 +205,42 @@ fn descriptors_missing() {
     }
 }
 
+/// What a program leaves whose input has these bytes and then no end: a read fails. The input does not wait, and its
+/// other end is open.
+fn run_on_failing_input(mut command: Command, bytes: &[u8]) -> Output {
+    let (input, mut other_end) = UnixStream::pair().unwrap();
+    input.set_nonblocking(true).unwrap();
+    other_end.write_all(bytes).unwrap();
+    let ran = command.stdin(OwnedFd::from(input)).output().unwrap();
+    assert!(ran.status.success());
+    ran
+}
+
+/// The beginning of a text can be a formula: nothing is said of it where the rest could not be read.
+#[test]
+fn a_text_that_is_read_in_part() {
+    for text in [&b""[..], b"x", b"x + y", b"x +", b"max(x, y)                    ", &[b' '; 5000]] {
+        let ran = run_on_failing_input(program::built("readtext"), text);
+        assert_eq!((&ran.stdout[..], &ran.stderr[..]), (&b""[..], &b""[..]), "{:?}", String::from_utf8_lossy(text));
+    }
+    // no byte of a folder can be read
+    let ran = program::built("readtext").stdin(File::open("/").unwrap()).output().unwrap();
+    assert_eq!((ran.stdout.len(), ran.stderr.len()), (0, 0));
+}
+
+/// Of an input that is drawn every beginning is refused, by its length, so that a read that fails may end it.
+#[test]
+fn an_input_that_is_read_in_part() {
+    let whole = ball(0);
+    for len in (0..whole.len()).step_by(7).chain([31, 32, 40, whole.len() - 1]) {
+        let ran = run_on_failing_input(program::command(), &whole[..len]);
+        let number = slow::program::program(&whole[..len]).answer.number;
+        assert!(number == 15 || number <= 4 && number > 0, "{number}");
+        assert_eq!(ran.stdout, format!("refused {number} at 0\n").into_bytes(), "{len} bytes");
+        assert!(ran.stderr.is_empty());
+    }
+}
+
 /// What the command says on descriptor 2 if its standard output is `out`.
 fn count_said(mut command: Command, out: impl Into<Stdio>, bytes: &[u8]) -> String {
     let mut child = command.stdin(Stdio::piped()).stdout(out).stderr(Stdio::piped()).spawn().unwrap();
@@ -236,4 +273,20 @@ fn no_count_behind_a_cut_picture() {
     assert_eq!(count_said(shell, File::create(&name).unwrap(), &ball_on([512, 512, 0])), "");
     let written = fs::metadata(&name).unwrap().len();
     assert!(0 < written && written < 512 * 512 / 8, "{written} bytes are written");
+}
+
+/// The last word of the reader of texts, the same way.
+#[test]
+fn no_last_word_behind_a_cut_tape() {
+    let text = ["x"; 512].join("+").into_bytes();
+    let reader = || program::built("readtext");
+    assert_eq!(count_said(reader(), Stdio::null(), &text), "10238\n");
+    assert_eq!(count_said(reader(), File::create("/dev/full").unwrap(), &text), "");
+    assert_eq!(count_said(reader(), File::create("/dev/full").unwrap(), b"x +"), "");
+    let mut shell = Command::new("sh");
+    shell.arg("-c").arg("trap '' XFSZ; ulimit -f 8; exec \"$0\"").arg(reader().get_program());
+    let name = Path::new(env!("CARGO_TARGET_TMPDIR")).join("cut.tape");
+    assert_eq!(count_said(shell, File::create(&name).unwrap(), &text), "");
+    let written = fs::metadata(&name).unwrap().len();
+    assert!(0 < written && written < 10_238, "{written} bytes are written");
 }

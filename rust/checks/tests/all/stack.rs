@@ -7,6 +7,7 @@ use checks::drawing::Drawing;
 use checks::lists::List;
 use slow::call::{draw, tile};
 use slow::draw::Grid;
+use slow::order::tile_solid_in_order;
 use slow::seen::{self, Event};
 use slow::text::OUTPUT;
 
@@ -42,7 +43,7 @@ fn on<T: Send + 'static>(stack: usize, run: impl FnOnce() -> T + Send + 'static)
     thread.join().expect("no overflow")
 }
 
-/// Draws by tiles, flat, solid and with slopes. Samples are run, so that every level is entered.
+/// Draws by tiles, flat, solid, with slopes and in an order. Samples are run, so that every level is entered.
 #[test]
 fn drawings_by_tiles() {
     let grid = Grid { sizes: [90, 70, 70], origins: [-43_300, -43_300, 0], steps: [1000; 3] };
@@ -51,19 +52,21 @@ fn drawings_by_tiles() {
         let core = drawing.core_grid();
         let (mut flat, mut solid, mut work) =
             (vec![0u8; drawing.flat], vec![0u16; drawing.solid], vec![0; drawing.work]);
-        let mut slopes = vec![0; 3 * drawing.solid];
+        let (mut slopes, order) = (vec![0; 3 * drawing.solid], (0..8).rev().collect::<Vec<u16>>());
         seen::take();
         let a = tile(&drawing.tape, &grid, &mut flat, &mut work);
         let b = tile(&drawing.tape, &grid, &mut solid, &mut work);
         let met = seen::take();
         assert!(met[Event::FlatSample as usize] && met[Event::SolidSample as usize]);
+        let backward = tile_solid_in_order(&drawing.tape, &grid, &order, &mut solid, &mut work);
         let drawn = on(MOST, move || {
             let a = layers::raw::tile_flat(&drawing.tape, core, &mut flat, &mut work);
             let b = layers::raw::tile_solid(&drawing.tape, core, &mut solid, &mut work);
             let c = layers::raw::tile_slopes(&drawing.tape, core, &mut solid, &mut slopes, &mut work);
-            [answer(a), answer(b), answer(c)]
+            let d = layers::raw::tile_solid_in_order(&drawing.tape, core, &order, &mut solid, &mut work);
+            [answer(a), answer(b), answer(c), answer(d)]
         });
-        assert_eq!(drawn, [a, b, b]);
+        assert_eq!(drawn, [a, b, b, backward]);
     }
 }
 

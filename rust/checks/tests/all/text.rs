@@ -364,22 +364,24 @@ fn random_bytes() {
     }
 }
 
-/// The program that writes a text's tape: the tape's bytes, or the refusal.
+/// The program that writes a text's tape: the tape's bytes, or the refusal; and their number as its last word.
 #[test]
 fn the_program_reads_texts() {
     let mut r = Random::seeded("the_program_reads_texts", 0x5EED_005A);
     let mut texts: Vec<Vec<u8>> = (0..200).map(|_| Reading::random(&mut r).text).collect();
-    texts.extend([vec![], b"x".to_vec(), vec![b' '; 61_480], [vec![b' '; 61_479], b"y".to_vec()].concat()]);
+    texts.extend([vec![], b"x".to_vec(), vec![b' '; 65_535], [vec![b' '; 65_534], b"y".to_vec()].concat()]);
     for text in texts {
         let expected = match text::tape(&text, None) {
             Ok(tape) => tape.to_bytes(),
             Err(stopped) => format!("refused {} at 0\n", stopped.number).into_bytes(),
         };
-        let ran = program::read_text(&text);
-        assert!(ran.first == expected && ran.second.is_empty(), "{:?}", String::from_utf8_lossy(&text));
+        let (ran, word) = (program::read_text(&text), format!("{}\n", expected.len()));
+        assert!(ran.first == expected && ran.second == word.as_bytes(), "{:?}", String::from_utf8_lossy(&text));
     }
-    assert_eq!(program::read_text(&[b' '; 61_481]).first, b"text above 61,480 bytes\n");
-    assert_eq!(program::read_text(&[b'x'; 100_000]).first, b"text above 61,480 bytes\n");
+    for text in [&[b' '; 65_536][..], &[b'x'; 100_000]] {
+        let ran = program::read_text(text);
+        assert_eq!((&ran.first[..], &ran.second[..]), (&b"text above 65,535 bytes\n"[..], &b"24\n"[..]));
+    }
 }
 
 #[test]

@@ -1,15 +1,10 @@
 -- The row's byte, stored.
-use mathlib.Core.Bool.{false}
-use mathlib.Core.List.{[]}
-use Prim.Native.Nat.{_-_, _*_}
 use native.Mathlib.Omega.{arith}
 use lib.ListN.{length}
-use Rattle.rules.specs.Drawings.{alongX}
 use Rattle.picture.proofs.PartLaws.{stored-apart}
-use Rattle.walk.specs.Walks.{Folds}
 use Rattle.walk.proofs.LookLaws.{sound-length}
 use Rattle.flat_samples.proofs.CellRows.{pixels-in}
-use Rattle.flat_samples.proofs.SampleRows.{samples-spare, row-folds, row-stored}
+use Rattle.flat_samples.proofs.SampleRows.{samples-spare, stored-as, row-bound, row-folds, row-stored}
 use borrow.Author.Needs.{needs}
 use Rattle.flat_samples.proofs.samples.sample_row.Statement.{statement}
 use Rattle.flat_samples.proofs.samples.sample_row.Tie as tie
@@ -50,23 +45,11 @@ sub-result c = omega (arith, start (with-byte (stored c)) .pre .byte .ok .xs)
 cast-result : tie.Need-cast-result
 cast-result c = search needs
 
--- What the row draws and counts.
-drawn : (c : tie.After-struct-known3)
-    → let a = start (with-byte (stored c)) .args in
-    Folds false 8 (a .code .now) (a .grid) [] (alongX 8 (a .parent .x) (a .y) 0 1 (a .parent .xend)) (a .picture .now)
-    (stored c .store-row .last .0) ((a .parent .xend - a .parent .x) * length (a .code .now))
-drawn c =
-    let u = stored c in
-    let b = with-byte u in
-    let p = start b .pre in
-    let k = p .byte in
-    row-folds (k .ok) (k .side) _ _ _ (k .row) (b .row-byte .ensures .0)
-    (row-stored (k .ok) (k .side) _ _ (p .start) (p .blank) (u .store-row .ensures))
-
 mul-result : tie.Need-mul-result
 mul-result c =
     let s = start (with-byte (stored c)) in
-    omega (arith, sound-length (s .pre .byte .sound), drawn c .bound)
+    let k = s .pre .byte in
+    omega (arith, sound-length (k .sound), row-bound (k .ok) (k .side) (length (s .args .code .now)))
 
 same-length : tie.Need-same-length
 same-length c = search needs
@@ -74,9 +57,17 @@ same-length c = search needs
 returns : tie.Need-returns
 returns c =
     let u = stored c in
-    let p = start (with-byte u) .pre in
-    let a = stored-apart (p .start) (omega (arith, p .byte .ok .xs)) (u .store-row .ensures) in
-    (drawn c, (with-byte u .row-byte .ensures .1, a))
+    let b = with-byte u in
+    let p = start b .pre in
+    let k = p .byte in
+    let r = u .store-row .ensures in (
+      λ n a. stored-as (b .row-byte .ensures .0 n a) r,
+      (
+        λ none. row-folds (k .ok) (k .side) _ _ _ (k .row) (b .row-byte .ensures .0)
+            (row-stored (k .ok) (k .side) _ _ (p .start) none r),
+        (b .row-byte .ensures .1, stored-apart (p .start) (omega (arith, k .ok .xs)) r),
+      ),
+    )
 
 pub sample-row-spec : {M : Type 1} → statement M
 sample-row-spec =

@@ -7,7 +7,7 @@ use native.Mathlib.Omega.{arith}
 use lib.ListN.{length}
 use mir.Facts.{toZ-ofZ}
 use Rattle.rules.specs.Tapes.{slotLimit}
-use Rattle.picture.specs.Parts.{Apart}
+use Rattle.picture.specs.Parts.{Blank, Apart}
 use Rattle.picture.proofs.GridWords.{InWords, in-words}
 use Rattle.picture.proofs.PartLaws.{apart-none, apart-part, rows-apart, blank-below}
 use Rattle.walk.proofs.CellLaws.{ready-small, span-words, x-span}
@@ -80,30 +80,36 @@ sample-row-requires c κs =
     let l = at-test t in
     let i = l .loop .inv in
     let p = start l .pre in
-    let k = p .ok .ys in
-    let s = p .side in
-    let o = i .0 .place .place in
     record {
       byte = record {
         sound = p .sound;
         fault = p .ready .fault;
         ok = p .ok;
-        side = s;
+        side = p .side;
         row = t .if1 .taken;
         lanes = samples l;
         size = i .1;
       };
       ready = ready-again (p .ready) (i .0 .place .size);
       start = p .start;
-      blank = blank-below {yend = l .loop .y + 1} (omega (arith, o)) (omega (arith, t .if1 .taken, k, s)) (i .2)
-          (p .blank);
     }
+
+-- The row of a turn is still blank.
+blank-here : (t : tie.Then1 Inv-loop μ-loop)
+    → let l = at-test t in
+    let a = start l .args in
+    Blank (a .grid .width) (a .parent .x) (a .parent .x + 8) (l .loop .y) (l .loop .y + 1) (l .loop .picture)
+blank-here t =
+    let l = at-test t in
+    let p = start l .pre in
+    blank-below (omega (arith, l .loop .inv .0 .place .place)) (omega (arith, t .if1 .taken, p .ok .ys, p .side))
+    (l .loop .inv .2) (p .blank)
 
 add-count : tie.Need-add-count Inv-loop μ-loop
 add-count c =
     let t = in-turn (called c .before) in
     let l = at-test t in
-    let u = up-sum (l .loop .inv .0 .place) (t .if1 .taken) (called c .sample-row .ensures .0 .bound) in
+    let u = up-sum (l .loop .inv .0 .place) (t .if1 .taken) (called c .sample-row .ensures .1 .0 (blank-here t) .bound) in
     omega (arith, sound-length (start l .pre .sound), u)
 
 add-y : tie.Need-add-y Inv-loop μ-loop
@@ -123,8 +129,8 @@ loop-again c =
     let i = at-test t .loop .inv in
     let kept = v .kept .1 .1 .1 .1 .1 .1 in
     let o = i .0 .place .place in
-    let a = rows-apart (omega arith) (omega arith) (i .2) (v .ensures .1 .1) in
-    (rows-again (i .0) (t .if1 .taken) (v .ensures .0) (kept .0), v .ensures .1 .0, a)
+    let a = rows-apart (omega arith) (omega arith) (i .2) (v .ensures .1 .1 .1) in
+    (rows-again (i .0) (t .if1 .taken) (v .ensures .1 .0 (blank-here t)) (kept .0), v .ensures .1 .1 .0, a)
 
 same-length : tie.Need-same-length Inv-loop μ-loop
 same-length c = past c .loop .inv .0 .place .size

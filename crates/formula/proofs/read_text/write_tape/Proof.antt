@@ -41,7 +41,7 @@ returns c =
     let p = c .before .before in
     let s = start (p .before .before) in
     packed-front _ (s .args .c) (s .args .out .now) (s .pre) _ (p .pack .last .1 .1 .0) (p .pack .result) refl
-    (p .pack .ensures)
+    (p .pack .ensures .0)
 
 pub write-tape-spec : {M : Type 1} → statement M
 write-tape-spec =

@@ -1,0 +1,2 @@
+-- What a drawing in an order asks and gives.
+pub mod InOrder
