@@ -155,7 +155,10 @@ mod tests {
             std::fs::write(&path, words).expect("written");
             path_of(&path).map(|path| path.iter().map(|offset| offset.map(Fraction::decimal)).collect::<Vec<_>>())
         };
-        assert_eq!(read("x,y\n1.5,-2\n\n# a comment\n0; 1/4 # here\n").expect("a path"), [["1.5", "-2"], ["0", "0.25"]]);
+        assert_eq!(
+            read("x,y\n1.5,-2\n\n# a comment\n0; 1/4 # here\n").expect("a path"),
+            [["1.5", "-2"], ["0", "0.25"]]
+        );
         for (words, said) in [("", "0 positions"), ("1,2\nx,y", "line 2"), ("1\n", "line 1"), ("1,2,3", "line 1")] {
             let stop = read(words).expect_err(words);
             assert!(stop.to_string().contains(said), "{stop}");
