@@ -24,7 +24,6 @@ mod relief;
 mod setup;
 mod spans;
 mod stack;
-mod sweep;
 mod trace;
 mod units;
 mod verify;
