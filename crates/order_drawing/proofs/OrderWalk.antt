@@ -22,7 +22,6 @@ use Rattle.picture.specs.Shapes.{gridIn}
 use Rattle.picture.specs.declared.grid.Grid.{Grid}
 use Rattle.walk.specs.Cells.{CellOf, regionIn}
 use Rattle.walk.specs.Children.{Parent, childrenIn, ChildOf}
-use Rattle.walk.specs.Draws.{Same}
 use Rattle.walk.specs.Walks.{Visits}
 use Rattle.walk.specs.declared.cell.Cell.{Cell}
 use Rattle.walk.proofs.CellLaws.{small, kind}

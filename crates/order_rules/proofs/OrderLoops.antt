@@ -12,7 +12,7 @@ use Rattle.rules.specs.Values.{when}
 use Rattle.rules.specs.Tapes.{Tape}
 use Rattle.rules.specs.Drawings.{Grid, Region, State, fold, visit, sides, whole}
 use Rattle.rules.proofs.Tests.{and-left, and-right}
-use Rattle.order_rules.specs.Orders.{timesIn, allBelow, isOrder, tiles, tileCount, inOrder, cleared, walkedIn}
+use Rattle.order_rules.specs.Orders.{timesIn, allBelow, isOrder, tiles, inOrder, cleared, walkedIn}
 use Rattle.order_rules.proofs.OrderTests.{both-true, order, Fresh, fresh-order, order-length, once-at}
 use Rattle.order_rules.proofs.AnyOrder.{order-size, order-take, order-get, below-at}
 

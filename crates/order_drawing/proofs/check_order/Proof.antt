@@ -1,5 +1,5 @@
 -- The lines of a full drawing, and where none of them holds the list's and the work buffer's.
-use mathlib.Core.Path.{_≡_, sym, ap, ap₂, _∙_}
+use mathlib.Core.Path.{sym, ap, ap₂, _∙_}
 use mathlib.Core.Bool.{true, not}
 use mathlib.Core.List.{[], _∷_}
 use Rattle.rules.specs.Values.{when, firstFault}

@@ -1,5 +1,5 @@
 -- Refused with every byte as it was, or the walk's picture and count in the order, and the work buffer cleared.
-use mathlib.Core.Path.{_≡_, ap, _∙_}
+use mathlib.Core.Path.{ap, _∙_}
 use lib.ListN.{replicate}
 use Rattle.order_drawing.proofs.Calls.{order-refused, order-draws, order-done}
 use borrow.Author.Needs.{needs}

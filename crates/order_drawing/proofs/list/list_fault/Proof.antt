@@ -1,9 +1,9 @@
 -- A number is flagged once it is seen: below the number of tiles, and not flagged yet.
-use mathlib.Core.Path.{_≡_, refl, sym, ap, _∙_}
-use Prim.Native.Nat.{ℕ, _-_, _≤_, _<_}
+use mathlib.Core.Path.{_≡_, _∙_}
+use Prim.Native.Nat.{ℕ, _-_, _≤_}
 use native.Mathlib.Omega.{arith}
 use native.Mathlib.Numerals.{add-one}
-use lib.ListN.{length, getD, length-set, length-replicate}
+use lib.ListN.{length, length-set, length-replicate}
 use Rattle.order_rules.proofs.OrderLoops.{Flags, no-flags, one-flag, all-passed, not-below, not-again, not-length}
 use Rattle.order_drawing.proofs.ListLine.{no-list, a-list}
 use borrow.Author.Needs.{needs}
