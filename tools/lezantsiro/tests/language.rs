@@ -39,7 +39,8 @@ fn names_and_powers_expand_to_a_plain_formula() {
 #[test]
 fn what_is_too_large_for_a_text_is_compiled_and_says_so() {
     let folder = Folder::new();
-    let terms: Vec<String> = (0..300).map(|i| format!("root(sqr(x - {i}) + sqr(y - {})) - q", i % 7)).collect();
+    let terms: Vec<String> =
+        (0..300).map(|i| format!("root(sqr(x - {}.{}) + sqr(y - {})) - q", i / 4, i % 4, i % 7)).collect();
     folder.write("many.txt", format!("q = root(sqr(x) + sqr(z))/9\nmin({})\n", terms.join(",\n")));
     let said = folder.well("check many.txt --size 64x48 --pitch 0.5mm").out;
     assert!(said.contains("too large for the proved reader of texts; compiled by this program"), "{said}");

@@ -232,9 +232,10 @@ mod tests {
         let names = random.below(4) as usize;
         for name in 0..names {
             let tree = random_part(random, 3, name);
-            write!(text, "n{name} = {tree}  # a name\n").expect("written");
+            writeln!(text, "n{name} = {tree}  # a name").expect("written");
         }
-        text + &random_part(random, 4, names)
+        // in brackets: behind a name, a minus could be either's
+        text + "(" + &random_part(random, 4, names) + ")"
     }
 
     fn random_part(random: &mut Random, depth: u32, names: usize) -> String {
