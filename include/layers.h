@@ -40,6 +40,7 @@
  *   20 probe: a coordinate not a number, infinite, or above 32,767 in magnitude
  *   21 merging: a result of more than 6,144 clauses, the minimum counted, or of more than 128 slots
  *   23 reason: a pixel outside the grid
+ *   25 path: empty, above 4,096 pairs, not in whole pairs, or a sample moved outside -2,147,483,647 to 2,147,483,647
  */
 #ifndef LAYERS_H
 #define LAYERS_H
@@ -53,6 +54,7 @@ extern "C" {
 
 #define LAYERS_WORK 32768
 #define LAYERS_TEXT_TAPE 10248
+#define LAYERS_POSITIONS 4096
 
 typedef struct {
     uint8_t number;
@@ -173,6 +175,15 @@ LayersAnswer layers_tile_slopes(const uint8_t *tape, size_t tape_len, LayersGrid
  */
 LayersReason layers_explain_pixel(const uint8_t *tape, size_t tape_len, LayersGrid grid, uint32_t x, uint32_t y,
                                   uint8_t *work, size_t work_len);
+
+/*
+ * What a part sweeps that moves along a path: pairs of numbers, the offsets of x and y at up to LAYERS_POSITIONS
+ * positions. A pixel of the flat grid is covered at a position if the formula is below 0 at the pixel's sample less the
+ * offsets. picture has one number a pixel: 1 + the number of the first position that covers it, counted from 0, or 0 if
+ * none does. It is drawn by tiles; the count is 0. layers_write_heights makes its file.
+ */
+LayersAnswer layers_tile_swept(const uint8_t *tape, size_t tape_len, LayersGrid grid, const int32_t *path, size_t path_len,
+                               uint16_t *picture, size_t picture_len, uint8_t *work, size_t work_len);
 
 /* Netpbm files. */
 LayersAnswer layers_write_bitmap(uint32_t width, uint32_t height, const uint8_t *picture, size_t picture_len, uint8_t *out,

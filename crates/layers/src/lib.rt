@@ -10,7 +10,7 @@ pub use promises::Reason;
 pub use promises::Sided;
 ghost use mathlib.Core.Bool.{true, false};
 ghost use Rattle.promises.specs.Says.{PackSays, UnpackSays, FullSays, TilesSay, SlopesSay, BitmapSays, HeightsSay};
-ghost use Rattle.promises.specs.Says.{ProbeSays, SidedSays, MergeSays, TextAnswered, ReasonSays, OrderSays};
+ghost use Rattle.promises.specs.Says.{ProbeSays, SidedSays, MergeSays, TextAnswered, ReasonSays, OrderSays, SweptSays};
 
 pub fn pack_tape(slots: u32, list: &[i32], out: &mut [u8]) -> Answer
     ensures { λ r. ⌜ PackSays slots (now (list .entry)) (now (out .entry)) (now (out .exit)) r ⌝ }
@@ -80,6 +80,19 @@ pub fn tile_solid_in_order(
         (now (picture .exit)) (now (work .entry)) (now (work .exit)) r ⌝ }
 {
     order_drawing::tile_solid_in_order(tape, grid, order, picture, work)
+}
+
+pub fn tile_swept(
+    tape: &[u8],
+    grid: Grid,
+    path: &[i32],
+    picture: &mut [u16],
+    work: &mut [u8],
+) -> Answer
+    ensures { λ r. ⌜ SweptSays (now (tape .entry)) grid (now (path .entry)) (now (picture .entry)) (now (picture .exit))
+        (now (work .entry)) (now (work .exit)) r ⌝ }
+{
+    swept_drawing::tile_swept(tape, grid, path, picture, work)
 }
 
 pub fn merge_tapes(first: &[u8], second: &[u8], out: &mut [u8]) -> Answer

@@ -8,7 +8,7 @@ use promises::Reason;
 use promises::Sided;
 ghost use mathlib.Core.Bool.{true, false};
 ghost use Rattle.promises.specs.Says.{PackSays, UnpackSays, FullSays, TilesSay, BitmapSays, HeightsSay};
-ghost use Rattle.promises.specs.Says.{SidedSays, SlopesSay, MergeSays, TextAnswered, ReasonSays, OrderSays};
+ghost use Rattle.promises.specs.Says.{SidedSays, SlopesSay, MergeSays, TextAnswered, ReasonSays, OrderSays, SweptSays};
 
 #[no_mangle]
 pub extern "C" fn layers_pack_tape(slots: u32, list: &[i32], out: &mut [u8]) -> Answer
@@ -110,6 +110,20 @@ pub extern "C" fn layers_explain_pixel(
     ensures { λ r. ⌜ ReasonSays (now (tape .entry)) grid x y (now (work .entry)) (now (work .exit)) r ⌝ }
 {
     layers::explain_pixel(tape, grid, x, y, work)
+}
+
+#[no_mangle]
+pub extern "C" fn layers_tile_swept(
+    tape: &[u8],
+    grid: Grid,
+    path: &[i32],
+    picture: &mut [u16],
+    work: &mut [u8],
+) -> Answer
+    ensures { λ r. ⌜ SweptSays (now (tape .entry)) grid (now (path .entry)) (now (picture .entry)) (now (picture .exit))
+        (now (work .entry)) (now (work .exit)) r ⌝ }
+{
+    layers::tile_swept(tape, grid, path, picture, work)
 }
 
 #[no_mangle]

@@ -8,3 +8,4 @@ pub mod Texts
 pub mod Merging
 pub mod Reasons
 pub mod Orders
+pub mod Swept

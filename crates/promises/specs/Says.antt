@@ -15,6 +15,7 @@ use Rattle.rules.specs.Probes.{probeFault, probedValue}
 use Rattle.formula_rules.specs.FormulaReader.{reader}
 use Rattle.merge_rules.specs.Merging.{mergedBytes, mergeFault, faultClause}
 use Rattle.order_rules.specs.Orders.{walkedIn, orderFault}
+use Rattle.swept_rules.specs.Swept.{offsetsOf, swept, sweptFault}
 use Rattle.picture.specs.Shapes.{gridIn}
 use Rattle.picture.specs.declared.grid.Grid.{Grid}
 use Rattle.answers.specs.declared.Answer.{Answer}
@@ -133,3 +134,11 @@ pub record ReasonSays (s : List ℕ) (d : Grid) (i j : ℕ) (w w′ : List ℕ) 
   pub figures : let g = gridIn d false in
       reasonIn r ≡ reasonBy (reasonFault s g i j (length w)) (readTape s .tape) g i j
   pub work : w′ ≡ written (reasonFault s (gridIn d false) i j (length w)) (replicate (length w) 0) w
+
+-- The swept picture, zs the path: lines 1 to 11, 25, 12 and 13; "each pixel must equal the full evaluation at all
+-- positions. The returned count is 0." The work buffer is cleared when done.
+pub record SweptSays (s : List ℕ) (d : Grid) (zs : List ℤ) (o o′ w w′ : List ℕ) (r : Answer) : Type 0 where
+  pub answer : Answered (sweptFault s (gridIn d false) zs (length o) (length w)) (readTape s .place) 0 r
+  pub pixels : let g = gridIn d false in
+      o′ ≡ written (sweptFault s g zs (length o) (length w)) (swept (readTape s .tape) (offsetsOf zs) g) o
+  pub work : w′ ≡ written (sweptFault s (gridIn d false) zs (length o) (length w)) (replicate (length w) 0) w

@@ -3,6 +3,9 @@
 //! solid with its slopes.
 //! `bench slopes` prints a table of times of solids with slopes beside those without.
 //! `bench lengths` prints a table of the lengths of short tapes.
+//! `bench swept` prints a table of times of parts along a path beside the full evaluation at all positions.
+
+mod swept;
 
 use bench::drawing::{Canvas, Kind, Way};
 use bench::measure::{Times, in_turn};
@@ -16,8 +19,11 @@ fn main() {
         [] => table(),
         ["slopes"] => slopes(),
         ["lengths"] => lengths(),
+        ["swept"] => swept::table(runs()),
         [way, kind, name] => once(way, kind, name),
-        _ => panic!("usage: bench [slopes | lengths | tiles|plain|full flat|solid NAME | tiles|plain sloped NAME]"),
+        _ => panic!(
+            "usage: bench [slopes | lengths | swept | tiles|plain|full flat|solid NAME | tiles|plain sloped NAME]"
+        ),
     }
 }
 

@@ -5,7 +5,8 @@
 //! the formula is below 0 there. A [`Grid`] says where the samples are. A [`Bitmap`] is one layer of the part, a
 //! [`Heightmap`] the part seen from above, if asked for with the [`Slopes`] that a viewer shades by; [`Tape::probe`]
 //! gives the formula at one point, [`Bitmap::reason`] why a pixel is as it is, and [`Tape::union`] makes one part of two.
-//! Values are whole numbers that count units of 1/65,536: [`fixed`] makes them.
+//! A [`Sweep`] is what the part covers along a path. Values are whole numbers that count units of 1/65,536: [`fixed`]
+//! makes them.
 //!
 //! The part x − 2 on three columns and two rows, with samples in the middle of each cell, at x = 0.5, 1.5 and 2.5:
 //!
@@ -42,6 +43,7 @@ mod probe;
 mod reason;
 mod refusal;
 mod slopes;
+mod sweep;
 mod tape;
 mod text;
 mod union;
@@ -57,6 +59,7 @@ pub use raw::Grid;
 pub use reason::{Reason, Stops};
 pub use refusal::Refusal;
 pub use slopes::Slopes;
+pub use sweep::{MAX_POSITIONS, Sweep};
 pub use tape::{FIRST_EDITION_CLAUSES, FIRST_EDITION_SLOTS, MAX_CLAUSES, MAX_SLOTS, Tape};
 pub use text::TextError;
 pub use union::UnionError;

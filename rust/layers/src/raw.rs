@@ -111,6 +111,9 @@ pub const WORK: usize = 32_768;
 /// The length of the buffer that a text's tape is written to: that of the longest, 1,024 clauses.
 pub const TEXT_TAPE: usize = 10_248;
 
+/// The most positions of a path.
+pub const POSITIONS: usize = 4_096;
+
 /// Declares the core's calls and wraps each: `name` is `layers_name` of include/layers.h, and a slice goes there as a
 /// pointer and a length. For the tests that compare the header, it also lists them.
 macro_rules! calls {
@@ -198,6 +201,11 @@ calls! {
     /// Why the pixel in column x and row y of [`tile_flat`]'s picture has material or has none. No picture is lent.
     fn explain_pixel(tape: &[u8], grid: Grid, x: u32, y: u32, work: &mut [u8]) -> Reason;
 
+    /// What a part sweeps along a path, pairs of offsets of x and y at up to [`POSITIONS`] positions: for each pixel of a
+    /// flat grid 1 + the number of the first position at which the formula, taken at the sample less the offsets, is
+    /// below 0, or 0.
+    fn tile_swept(tape: &[u8], grid: Grid, path: &[i32], picture: &mut [u16], work: &mut [u8]) -> Answer;
+
     /// The Netpbm bitmap file of a flat picture.
     fn write_bitmap(width: u32, height: u32, picture: &[u8], out: &mut [u8]) -> Answer;
 
@@ -264,7 +272,9 @@ mod tests {
     #[test]
     fn lengths() {
         let defined = HEADER.lines().filter_map(|line| line.strip_prefix("#define LAYERS_")?.split_once(' '));
-        let lengths: Vec<(&str, &str)> = defined.filter(|(_, value)| value.len() > 1).collect();
-        assert_eq!(lengths, [("WORK", &*WORK.to_string()), ("TEXT_TAPE", &*TEXT_TAPE.to_string())]);
+        let of_calls = defined.filter(|(_, value)| value.len() > 1);
+        let lengths: Vec<(&str, String)> = of_calls.map(|(name, value)| (name, value.into())).collect();
+        let ours = [("WORK", WORK), ("TEXT_TAPE", TEXT_TAPE), ("POSITIONS", POSITIONS)];
+        assert_eq!(lengths, ours.map(|(name, value)| (name, value.to_string())));
     }
 }

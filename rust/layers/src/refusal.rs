@@ -1,6 +1,6 @@
 //! Why an input is turned down.
 
-use crate::raw::{Answer, TEXT_TAPE, WORK};
+use crate::raw::{Answer, POSITIONS, TEXT_TAPE, WORK};
 use crate::{FIRST_EDITION_CLAUSES, FIRST_EDITION_SLOTS, MAX_CLAUSES, MAX_SIZE, MAX_SLOTS, Opcode};
 use std::error::Error;
 use std::fmt;
@@ -79,7 +79,7 @@ refusals! {
     /// A line of the core's table of refusals, in the table's order. Clauses are counted from 0.
     ///
     /// A [`Tape`](crate::Tape) meets lines 1 to 9, or as text 17 to 19, a drawing of it 10 and 11, a probe 20, a union
-    /// 21, the reason for a pixel 23. Lines 12 to 14 are about lent memory, so but for an order of tiles, which is 12
+    /// 21, the reason for a pixel 23, a sweep 25. Lines 12 to 14 are about lent memory, so but for an order of tiles, which is 12
     /// too, only the calls of [`raw`](crate::raw) meet them; 15 and 16 are about the input of the program `drawlayer`.
     ///
     /// ```
@@ -145,6 +145,10 @@ refusals! {
          {MAX_SLOTS}: use slots again, or draw the parts one by one";
     23 PixelOutside, "reason: a pixel outside the grid",
         "columns and rows are counted from 0, so a pixel's are below the grid's width and height";
+    25 PathOutOfRange,
+        "path: empty, above 4,096 pairs, not in whole pairs, or a sample moved outside −2,147,483,647 to 2,147,483,647",
+        "a path has 1 to {POSITIONS} positions, each the offsets of x and y, and every sample less its offset must be \
+         {LEAST} to {GREATEST}: take fewer positions, or a grid nearer to 0";
 }
 
 impl Error for Refusal {}

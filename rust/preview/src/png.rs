@@ -1,12 +1,22 @@
-//! PNG files of grey pictures, with what little of deflate keeps plain pictures small: fixed codes and repeats found by
+//! PNG files of pictures, grey or in colour, with what little of deflate keeps plain pictures small: fixed codes and repeats found by
 //! their first three bytes.
 
-/// A file of one bit a pixel (rows of whole bytes) or eight.
+/// A grey file of one bit a pixel (rows of whole bytes) or eight.
 pub fn png(width: u32, height: u32, bits: u8, rows: &[u8]) -> Vec<u8> {
+    file(width, height, [bits, 0], rows)
+}
+
+/// A file in colour, three bytes a pixel: red, green and blue.
+pub fn colour_png(width: u32, height: u32, rows: &[u8]) -> Vec<u8> {
+    file(width, height, [8, 2], rows)
+}
+
+/// A file with so many bits for each of a pixel's numbers, of a kind: 0 grey, 2 colour.
+fn file(width: u32, height: u32, [bits, kind]: [u8; 2], rows: &[u8]) -> Vec<u8> {
     let mut head = Vec::new();
     head.extend(width.to_be_bytes());
     head.extend(height.to_be_bytes());
-    head.extend([bits, 0, 0, 0, 0]);
+    head.extend([bits, kind, 0, 0, 0]);
     let mut file = b"\x89PNG\r\n\x1a\n".to_vec();
     chunk(&mut file, b"IHDR", &head);
     chunk(&mut file, b"IDAT", &zlib(&filtered(rows, rows.len() / height as usize)));

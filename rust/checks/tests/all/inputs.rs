@@ -3,13 +3,12 @@
 
 use checks::plate::{self, Changing};
 use checks::random::Random;
-use checks::swept::Sweeping;
 use checks::table::{self, Turn};
 use layers::raw;
 use slow::call::Answer;
 use slow::fault::{self, Plant};
 use slow::plate::{PLACE, PLACES, afresh};
-use slow::{plate as slow_plate, swept, table as slow_table};
+use slow::{plate as slow_plate, table as slow_table};
 use std::collections::BTreeSet;
 use std::fmt::Debug;
 
@@ -45,22 +44,6 @@ fn all_show<F: Plant + Debug, C>(
         let shows = (0..cases).any(|i| compare(&of[i % of.len()](&mut r), &mut noise, fault).is_err());
         assert!(shows, "{fault:?} does not show");
     }
-}
-
-fn sweeping(case: &Sweeping, noise: &mut Random, fault: Option<swept::Fault>) -> Result<Answer, String> {
-    let grid = &case.drawing.grid;
-    case.compare(noise, |tape, _, path, picture, work| {
-        raw(planted(fault, || swept::tile_swept(tape, grid, path, picture, work)))
-    })
-}
-
-#[test]
-fn paths() {
-    let number = |case: &Sweeping, noise: &mut Random| sweeping(case, noise, None).expect("the same call").number;
-    assert_eq!(met(100, Sweeping::random, number), [0]);
-    assert_eq!(met(2_500, Sweeping::damaged, number), [0, 1, 2, 3, 4, 5, 6, 7, 8, 9, 10, 11, 12, 13, 25]);
-    let kinds = [Sweeping::random, Sweeping::damaged];
-    all_show(swept::Fault::ALL, 300, &kinds, |case, noise, fault| sweeping(case, noise, Some(fault)).map(drop));
 }
 
 fn changing(case: &Changing, noise: &mut Random, fault: Option<slow_plate::Fault>) -> Result<Answer, String> {

@@ -16,4 +16,5 @@ mod reason;
 mod refusals;
 mod slopes;
 mod stack;
+mod swept;
 mod text;

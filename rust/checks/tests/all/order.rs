@@ -155,7 +155,7 @@ fn planted_faults_are_caught() {
         let mut r = Random::seeded(&format!("{planted:?}"), 0x5EED_0095);
         let mut noise = Random::new(0x5EED_0096);
         let mut differs = |i: u64| {
-            let case = if i % 2 == 0 { Ordered::random(&mut r) } else { Ordered::damaged(&mut r) };
+            let case = if i % 2 == 1 { Ordered::damaged(&mut r) } else { Ordered::random(&mut r) };
             fault::with(planted, || case.compare(&mut noise, core)).is_err()
         };
         assert!((0..400).any(&mut differs), "{planted:?} is not caught");

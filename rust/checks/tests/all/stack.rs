@@ -88,6 +88,21 @@ fn reasons() {
     assert!([64, 8, 1].iter().all(|side| sides.contains(side)), "{sides:?}");
 }
 
+/// What is swept along the longest path, which ends where it began.
+#[test]
+fn sweeps() {
+    let grid = Grid { sizes: [66, 3, 0], origins: [-33_300, -1_300, 100], steps: [1000; 3] };
+    let path: Vec<i32> = (0..4_096).flat_map(|k: i32| [10 * (k - 2_048).abs() - 20_000, 7 * k]).collect();
+    for list in tapes() {
+        let drawing = Drawing::new(list.tape(), grid);
+        let (core, path, mut picture) = (drawing.core_grid(), path.clone(), vec![0; drawing.solid]);
+        let said = on(MOST, move || {
+            layers::raw::tile_swept(&drawing.tape, core, &path, &mut picture, &mut vec![0; drawing.work]).number
+        });
+        assert_eq!(said, 0);
+    }
+}
+
 /// Draws in full.
 #[test]
 fn drawings_in_full() {

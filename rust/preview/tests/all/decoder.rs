@@ -1,7 +1,7 @@
 //! A second opinion on PNG files, written from the formats' papers (RFC 1950, 1951, 2083) and not from `png.rs`: every
 //! check sum is computed anew, and the pixels are read back.
 
-/// A grey picture, read from a file.
+/// A picture, read from a file.
 #[derive(Debug, PartialEq, Eq)]
 pub struct Decoded {
     pub width: usize,
@@ -20,8 +20,18 @@ impl Decoded {
     }
 }
 
-/// Reads a file of the chunks IHDR, IDAT and IEND, and says which thing is wrong.
+/// Reads a grey file of the chunks IHDR, IDAT and IEND, and says which thing is wrong.
 pub fn decode(file: &[u8]) -> Result<Decoded, &'static str> {
+    decode_as(file, 0, 1)
+}
+
+/// The same of a file in colour, three bytes a pixel.
+pub fn decode_colour(file: &[u8]) -> Result<Decoded, &'static str> {
+    decode_as(file, 2, 3)
+}
+
+/// A file of the kind that its head names, with so many numbers a pixel.
+fn decode_as(file: &[u8], kind: u8, numbers: usize) -> Result<Decoded, &'static str> {
     let rest = file.strip_prefix(&[137, 80, 78, 71, 13, 10, 26, 10]).ok_or("signature")?;
     let (head, rest) = chunk(rest, b"IHDR")?;
     let (data, rest) = chunk(rest, b"IDAT")?;
@@ -31,10 +41,10 @@ pub fn decode(file: &[u8]) -> Result<Decoded, &'static str> {
     }
     let (width, height) = (number(head, 0)? as usize, number(head, 4)? as usize);
     let bits = head[8];
-    if !matches!(bits, 1 | 8) || head[9..] != [0, 0, 0, 0] {
+    if !matches!(bits, 1 | 8) || head[9..] != [kind, 0, 0, 0] {
         return Err("head");
     }
-    let length = (width * bits as usize).div_ceil(8);
+    let length = (numbers * width * bits as usize).div_ceil(8);
     let rows = unfiltered(&inflated(data)?, length)?;
     if rows.len() == length * height { Ok(Decoded { width, height, bits, rows }) } else { Err("count of rows") }
 }

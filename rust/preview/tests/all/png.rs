@@ -1,7 +1,7 @@
 //! PNG files have the pixels that were put into them.
 
-use crate::decoder::{Decoded, decode};
-use preview::png::png;
+use crate::decoder::{Decoded, decode, decode_colour};
+use preview::png::{colour_png, png};
 
 /// Numbers that look random and are the same in every run.
 fn noise(count: usize) -> Vec<u8> {
@@ -23,6 +23,16 @@ fn noise_comes_back() {
     comes_back(1, 1, 8, vec![200]);
     comes_back(301, 97, 8, noise(301 * 97));
     comes_back(13, 50, 1, noise(2 * 50));
+}
+
+#[test]
+fn colours_come_back() {
+    for (width, height) in [(1, 1), (97, 31), (512, 3)] {
+        let (bits, rows) = (8, noise(3 * width * height));
+        let file = colour_png(width as u32, height as u32, &rows);
+        assert!(decode(&file).is_err());
+        assert_eq!(decode_colour(&file), Ok(Decoded { width, height, bits, rows }));
+    }
 }
 
 #[test]

@@ -1,0 +1,2 @@
+-- What the proofs of the call share.
+pub mod Calls

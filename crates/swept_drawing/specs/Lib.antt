@@ -1,0 +1,2 @@
+-- What a swept picture asks and gives that no line refuses.
+pub mod Swept

@@ -1,0 +1,3 @@
+-- Laws of paths, moved boxes and kept positions.
+pub mod PathLaws
+pub mod KeepLaws

@@ -1,0 +1,3 @@
+-- Laws of regions that are drawn part by part, and of the search.
+pub mod PutLaws
+pub mod SearchLaws

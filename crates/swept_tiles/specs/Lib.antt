@@ -1,0 +1,2 @@
+-- What a look at a region and the levels ask and promise.
+pub mod Looks
