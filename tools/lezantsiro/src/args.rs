@@ -63,6 +63,8 @@ pub enum Command {
     View(ViewArgs),
     /// Say why a pixel has material or none
     Why(WhyArgs),
+    /// Draw what a part sweeps along a path
+    Sweep(SweepArgs),
     /// Make a tape of a .vm file, as Fidget and mpr have them
     Import(ImportArgs),
 }
@@ -306,6 +308,23 @@ pub struct WhyArgs {
     pub plate: PlateArgs,
     #[command(flatten)]
     pub mask: MaskArgs,
+}
+
+#[derive(Args, Debug)]
+pub struct SweepArgs {
+    #[command(flatten)]
+    pub part: PartArgs,
+    /// The positions: a line each, how far the part is moved along x and y in mm
+    #[arg(long, value_name = "FILE.csv")]
+    pub path: PathBuf,
+    /// The z at which the part is looked at
+    #[arg(long, value_name = "MM", allow_hyphen_values = true)]
+    pub z: Option<Fraction>,
+    #[command(flatten)]
+    pub plate: PlateArgs,
+    /// The folder of the pictures [default: out/NAME]
+    #[arg(long, value_name = "DIR")]
+    pub out: Option<PathBuf>,
 }
 
 #[derive(Args, Debug)]

@@ -12,7 +12,7 @@ use crate::plate::{Levels, Plate, Samples, samples};
 use crate::relief::{Relief, relief};
 use crate::stack::{self, Done, no_room};
 use crate::units::Fraction;
-use crate::{archive, cost, diff, import, join, printers, setup, verify, view, why};
+use crate::{archive, cost, diff, import, join, printers, setup, sweep, verify, view, why};
 use files::json::Value;
 use files::mask::{Format, Mask, Material, Pixels, Style, encode};
 use files::whole;
@@ -50,6 +50,7 @@ pub fn run(cli: &Cli) -> Result<Said, Stop> {
         Command::Import(args) => import::run(args),
         Command::View(args) => view::run(args),
         Command::Why(args) => why::run(args),
+        Command::Sweep(args) => sweep::run(args),
     }
 }
 

@@ -24,6 +24,7 @@ mod relief;
 mod setup;
 mod spans;
 mod stack;
+mod sweep;
 mod trace;
 mod units;
 mod verify;
