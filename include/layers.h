@@ -134,8 +134,8 @@ LayersAnswer layers_merge_tapes(const uint8_t *first, size_t first_len, const ui
                                 uint8_t *out, size_t out_len);
 
 /*
- * A formula as text, such as max(root(sqr(x) + sqr(y)) - 12.5, abs(z) - 2), to a tape; README.md has the rules. out has
- * LAYERS_TEXT_TAPE bytes. The tape goes to its front, the bytes behind it stay, and its length is
+ * A formula as text, such as max(root(sqr(x) + sqr(y)) - 12.5, abs(z) - 2), to a tape; docs/FORMATS.md has the
+ * rules. out has LAYERS_TEXT_TAPE bytes. The tape goes to its front, the bytes behind it stay, and its length is
  * 8 + 10 * (out[4] + 256 * out[5]).
  */
 LayersAnswer layers_read_text(const uint8_t *text, size_t text_len, uint8_t *out, size_t out_len);

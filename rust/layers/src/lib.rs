@@ -64,7 +64,8 @@ pub use tape::{FIRST_EDITION_CLAUSES, FIRST_EDITION_SLOTS, MAX_CLAUSES, MAX_SLOT
 pub use text::TextError;
 pub use union::UnionError;
 
-/// The README's example runs with the other examples.
+/// The pages' examples run with the other examples.
 #[cfg(doctest)]
 #[doc = include_str!("../../../README.md")]
-struct Readme;
+#[doc = include_str!("../../../docs/RUST.md")]
+struct Pages;

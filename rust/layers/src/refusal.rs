@@ -6,8 +6,8 @@ use std::error::Error;
 use std::fmt;
 
 /// Makes [`Refusal`] and all that is known of each line from one row a line: the number, the name (with `{ clause }`
-/// where the place counts), what the table of the formats says, and the message, before which `clause N` is put where there
-/// is one.
+/// where the place counts), what the table in docs/FORMATS.md says, and the message, before which `clause N` is put
+/// where there is one.
 macro_rules! refusals {
     (
         $(#[$about:meta])*
@@ -65,7 +65,7 @@ macro_rules! refusals {
             }
         }
 
-        /// The table, as the page of the formats has it.
+        /// The table, as docs/FORMATS.md has it.
         #[cfg(test)]
         const LINES: &[(u8, &str)] = &[$(($number, $line)),*];
     };
@@ -174,8 +174,6 @@ mod tests {
     use super::*;
     use crate::{Grid, raw};
     use std::collections::HashSet;
-    use std::fs;
-    use std::path::Path;
 
     /// Every refusal, in table order.
     fn all() -> impl Iterator<Item = Refusal> {
@@ -189,16 +187,9 @@ mod tests {
         assert_eq!(all().map(Refusal::number).collect::<Vec<_>>(), numbers);
     }
 
-    /// The page of the formats, or the README where that page is not there.
-    fn page() -> String {
-        let root = Path::new(env!("CARGO_MANIFEST_DIR")).join("../..");
-        let pages = ["docs/FORMATS.md", "README.md"].map(|page| root.join(page));
-        fs::read_to_string(pages.iter().find(|page| page.exists()).expect("a page")).expect("a page to read")
-    }
-
     #[test]
-    fn the_page_has_the_table() {
-        let page = page();
+    fn the_page_of_formats_has_the_table() {
+        let page = include_str!("../../../docs/FORMATS.md");
         let table = page.lines().skip_while(|&line| line != "| number | if |").take_while(|line| line.starts_with('|'));
         let rows: Vec<&str> = table.filter(|line| line.starts_with("| ")).collect();
         let expected = LINES.iter().map(|(number, line)| format!("| {number} | {line} |"));

@@ -66,11 +66,9 @@ impl Scratch {
         for folder in ["repo/target/bin", "repo/target/cargo/release", "repo/tools", "repo/docs", "bin", "room"] {
             fs::create_dir_all(scratch.at(folder)).unwrap();
         }
-        fs::copy(in_repository("tools/proving.sh"), scratch.at("repo/tools/proving.sh")).unwrap();
-        // the page that has the table of refusals
-        let page =
-            ["docs/FORMATS.md", "README.md"].into_iter().find(|page| in_repository(page).exists()).expect("a page");
-        fs::copy(in_repository(page), scratch.at("repo").join(page)).unwrap();
+        for file in ["docs/FORMATS.md", "tools/proving.sh"] {
+            fs::copy(in_repository(file), scratch.at("repo").join(file)).unwrap();
+        }
         fs::write(scratch.at("repo/crates.txt"), CRATES).unwrap();
         let draw = fs::read_to_string(in_repository("draw")).unwrap();
         scratch.script("repo/draw", draw.strip_prefix("#!/bin/sh\n").expect("a script"));
