@@ -51,6 +51,22 @@ pub enum Command {
     Verify(VerifyArgs),
     /// Write a folder's masks as an SL1 archive, which PrusaSlicer imports
     Sl1(Sl1Args),
+    /// Print the plain formula that a text with names and the like comes to
+    Expand(ExpandArgs),
+    /// Make one part of several, where any of them has material
+    Join(JoinArgs),
+    /// Compare the masks of two folders, pixel by pixel
+    Diff(DiffArgs),
+    /// Say where clauses are run, layer by layer
+    Time(TimeArgs),
+    /// Write a folder's masks as one page to look at
+    View(ViewArgs),
+    /// Say why a pixel has material or none
+    Why(WhyArgs),
+    /// Draw what a part sweeps along a path
+    Sweep(SweepArgs),
+    /// Make a tape of a .vm file, as Fidget and mpr have them
+    Import(ImportArgs),
 }
 
 #[derive(Args, Debug)]
@@ -217,12 +233,123 @@ pub struct Sl1Args {
     pub printers: Option<PathBuf>,
 }
 
+#[derive(Args, Debug)]
+pub struct ExpandArgs {
+    #[command(flatten)]
+    pub part: PartArgs,
+}
+
+#[derive(Args, Debug)]
+pub struct JoinArgs {
+    /// The parts: two or more
+    #[arg(value_name = "PART", num_args = 2.., required = true)]
+    pub parts: Vec<PathBuf>,
+    /// The tape of the whole
+    #[arg(long, value_name = "FILE", default_value = "out/join.tape")]
+    pub out: PathBuf,
+}
+
+#[derive(Args, Debug)]
+pub struct DiffArgs {
+    /// A folder of masks
+    pub first: PathBuf,
+    /// Another one, of the same plate
+    pub second: PathBuf,
+    /// The picture of where they differ
+    #[arg(long, value_name = "FILE", default_value = "out/diff.png")]
+    pub out: PathBuf,
+}
+
+#[derive(Args, Debug)]
+pub struct TimeArgs {
+    #[command(flatten)]
+    pub part: PartArgs,
+    #[command(flatten)]
+    pub levels: LevelArgs,
+    #[command(flatten)]
+    pub plate: PlateArgs,
+    /// Write the chart as a picture too
+    #[arg(long, value_name = "FILE")]
+    pub png: Option<PathBuf>,
+}
+
+#[derive(Args, Debug)]
+pub struct ViewArgs {
+    /// The folder of the masks
+    pub dir: PathBuf,
+    /// The page [default: DIR/view.html]
+    #[arg(long, value_name = "FILE")]
+    pub out: Option<PathBuf>,
+    /// The most bytes of masks in it; beyond, every n-th layer is taken
+    #[arg(long, value_name = "BYTES", hide = true)]
+    pub largest: Option<usize>,
+}
+
+#[derive(Args, Debug)]
+pub struct WhyArgs {
+    /// The part, or a folder of masks, whose plate and layers are then taken
+    #[command(flatten)]
+    pub part: PartArgs,
+    /// The pixel of the mask: its column from the left and its row from the top, from 0
+    #[arg(long, value_name = "X,Y", value_parser = parse_pixel)]
+    pub pixel: (u32, u32),
+    /// The layer, counted from 0
+    #[arg(long, value_name = "K", default_value_t = 0)]
+    pub layer: u32,
+    /// The layer's z, in the place of its number
+    #[arg(long, value_name = "MM", allow_hyphen_values = true, conflicts_with = "layer")]
+    pub z: Option<Fraction>,
+    /// Write also a picture of where the work goes
+    #[arg(long, value_name = "FILE")]
+    pub png: Option<PathBuf>,
+    #[command(flatten)]
+    pub levels: LevelArgs,
+    #[command(flatten)]
+    pub plate: PlateArgs,
+    #[command(flatten)]
+    pub mask: MaskArgs,
+}
+
+#[derive(Args, Debug)]
+pub struct SweepArgs {
+    #[command(flatten)]
+    pub part: PartArgs,
+    /// The positions: a line each, how far the part is moved along x and y in mm
+    #[arg(long, value_name = "FILE.csv")]
+    pub path: PathBuf,
+    /// The z at which the part is looked at
+    #[arg(long, value_name = "MM", allow_hyphen_values = true)]
+    pub z: Option<Fraction>,
+    #[command(flatten)]
+    pub plate: PlateArgs,
+    /// The folder of the pictures [default: out/NAME]
+    #[arg(long, value_name = "DIR")]
+    pub out: Option<PathBuf>,
+}
+
+#[derive(Args, Debug)]
+pub struct ImportArgs {
+    /// A .vm file: a line a clause
+    pub file: PathBuf,
+    /// How many mm one of the model is
+    #[arg(long, value_name = "MM", default_value = "1", value_parser = parse_positive)]
+    pub scale: Fraction,
+    /// The tape [default: out/NAME.tape]
+    #[arg(long, value_name = "FILE")]
+    pub out: Option<PathBuf>,
+}
+
 fn parse_size(text: &str) -> Result<(u32, u32), String> {
     size(text).ok_or(format!("'{text}' is no size such as 3840x2400, of 1 to 65535 pixels a side"))
 }
 
 fn parse_pitch(text: &str) -> Result<[Fraction; 2], String> {
     pitches(text).ok_or(format!("'{text}' is no pitch such as 0.05mm, 1/20 or 0.019x0.024mm"))
+}
+
+fn parse_pixel(text: &str) -> Result<(u32, u32), String> {
+    let pixel = text.split_once(',').and_then(|(x, y)| Some((x.trim().parse().ok()?, y.trim().parse().ok()?)));
+    pixel.ok_or(format!("'{text}' is no pixel such as 120,80: a column and a row"))
 }
 
 fn parse_positive(text: &str) -> Result<Fraction, String> {

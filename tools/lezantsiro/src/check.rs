@@ -112,6 +112,7 @@ impl Report {
             format!("{}: {} clauses, {} slots, edition {}", part.name, self.clauses, self.slots, self.edition),
             format!("plate: {width} by {height} pixels{samples}, x {left} to {right}, y {bottom} to {top} mm"),
         ];
+        lines.extend(part.remark());
         lines.extend(self.pitch.iter().map(|words| format!("pitch on {words}")));
         lines.push(format!("drawn: {} clauses, {} slots", self.drawn_clauses, self.drawn_slots));
         let all = self.layers.map(|layers| self.bound * u128::from(layers));

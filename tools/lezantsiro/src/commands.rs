@@ -1,6 +1,8 @@
 //! The commands: each gathers what it needs, has it done, and says what came of it.
 
-use crate::args::{CheckArgs, Cli, Command, HeightsArgs, LayerArgs, ProbeArgs, Sl1Args, StackArgs, VerifyArgs};
+use crate::args::{
+    CheckArgs, Cli, Command, ExpandArgs, HeightsArgs, LayerArgs, ProbeArgs, Sl1Args, StackArgs, VerifyArgs,
+};
 use crate::check;
 use crate::manifest::{Heading, Manifest, Shard};
 use crate::messages::{Stop, grouped, text};
@@ -10,7 +12,7 @@ use crate::plate::{Levels, Plate, Samples, samples};
 use crate::relief::{Relief, relief};
 use crate::stack::{self, Done, no_room};
 use crate::units::Fraction;
-use crate::{archive, printers, setup, verify};
+use crate::{archive, cost, diff, import, join, printers, setup, sweep, verify, view, why};
 use files::json::Value;
 use files::mask::{Format, Mask, Material, Pixels, Style, encode};
 use files::whole;
@@ -27,7 +29,7 @@ pub struct Said {
 }
 
 impl Said {
-    fn well(lines: Vec<String>, value: Value) -> Said {
+    pub fn well(lines: Vec<String>, value: Value) -> Said {
         Said { lines, value, stop: None }
     }
 }
@@ -41,6 +43,14 @@ pub fn run(cli: &Cli) -> Result<Said, Stop> {
         Command::Check(args) => checked(args, cli.quiet),
         Command::Verify(args) => verified(args, cli.quiet),
         Command::Sl1(args) => sl1(args),
+        Command::Expand(args) => expand(args),
+        Command::Join(args) => join::run(args),
+        Command::Diff(args) => diff::run(args),
+        Command::Time(args) => cost::run(args, cli.quiet),
+        Command::Import(args) => import::run(args),
+        Command::View(args) => view::run(args),
+        Command::Why(args) => why::run(args),
+        Command::Sweep(args) => sweep::run(args),
     }
 }
 
@@ -81,6 +91,7 @@ fn masks(
     let done = stack::run(&part.tape, manifest, dir, quiet)?;
     let mut lines = vec![headline(&heading, shard, dir, &done)];
     lines.extend(timing(&done));
+    lines.extend(part.remark());
     lines.extend(clamped.map(|words| format!("clamped, as allowed: {words}")));
     lines.extend(off_words(&plate));
     lines.extend(done.remarks());
@@ -152,6 +163,7 @@ fn heights(args: &HeightsArgs) -> Result<Said, Stop> {
     if args.shade {
         lines.push(write_shade(&dir, &drawn, &plate, &z)?);
     }
+    lines.extend(part.remark());
     lines.extend(clamped.map(|words| format!("clamped, as allowed: {words}")));
     lines.extend(off_words(&plate));
     let value = Value::object([
@@ -215,7 +227,8 @@ fn probe(args: &ProbeArgs) -> Result<Said, Stop> {
         Probe::Outside(value) => ("outside", value),
         Probe::Surface => ("surface", 0.0),
     };
-    let lines = vec![format!("{side}, {value}")];
+    let mut lines = vec![format!("{side}, {value}")];
+    lines.extend(part.remark());
     // a whole number of units, as the core has it
     let units = Value::Whole((value * 65_536.0) as i128);
     let value = Value::object([("status", Value::Whole(0)), ("side", text(side)), ("units", units)]);
@@ -273,4 +286,19 @@ fn sl1(args: &Sl1Args) -> Result<Said, Stop> {
         ("layers", Value::Whole(job.layers as i128)),
     ]);
     Ok(Said::well(vec![line], value))
+}
+
+/// The plain formula, as the proved reader has it.
+fn expand(args: &ExpandArgs) -> Result<Said, Stop> {
+    let part = setup::part(&args.part)?;
+    let none = || Stop::Usage(format!("{} is no text, or its plain formula is over a megabyte", part.name));
+    let formula = part.formula().ok_or_else(none)?;
+    let value = Value::object([
+        ("status", Value::Whole(0)),
+        ("formula", text(&formula)),
+        ("clauses", Value::Whole(part.tape.clauses().len() as i128)),
+        ("slots", Value::Whole(part.tape.slots().into())),
+        ("edition", Value::Whole(part.tape.edition().into())),
+    ]);
+    Ok(Said::well(vec![formula], value))
 }

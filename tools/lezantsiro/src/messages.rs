@@ -1,7 +1,7 @@
 //! How a run ends badly: in words, by a number where there is one, and by an exit status.
 
 use files::json::Value;
-use layers::{Refusal, TextError};
+use layers::Refusal;
 use std::fmt;
 use std::path::Path;
 use std::process::ExitCode;
@@ -55,12 +55,6 @@ impl Stop {
         let place = refusal.place().map_or(Place::Whole, Place::Clause);
         let words = if besides.is_empty() { refusal.to_string() } else { format!("{besides}: {refusal}") };
         Stop::Refused { number: refusal.number(), place, words }
-    }
-
-    /// A text that is no formula.
-    pub fn broken(error: &TextError, besides: &str) -> Stop {
-        let place = error.at().map_or(Place::Whole, Place::Byte);
-        Stop::Refused { number: error.refusal().number(), place, words: format!("{besides}{error}") }
     }
 
     pub fn unwritten(path: &Path, error: &std::io::Error) -> Stop {

@@ -1,9 +1,11 @@
 //! What is drawn: a formula as text, a grid record with its tape, or a tape alone.
 
-use crate::messages::{Place, Stop};
+use crate::language::expand::{Expanded, Unread, expanded};
+use crate::manifest::Source;
+use crate::messages::{Place, Stop, grouped};
 use crate::spans::{Span, spans};
 use crate::units::Fraction;
-use layers::{Opcode, Refusal, Tape};
+use layers::{MAX_CLAUSES, MAX_SLOTS, Opcode, Refusal, Tape};
 use std::fs::File;
 use std::io::Read;
 use std::path::Path;
@@ -23,12 +25,23 @@ pub struct Part {
     pub text: Option<Text>,
     /// The grid that it came with.
     pub own: Option<OwnGrid>,
+    /// Its tape as made by this program, if the proved reader has not made it.
+    pub compiled: Option<Compiled>,
+}
+
+/// What is to be said of a tape that the proved reader has not made.
+#[derive(Clone, Debug)]
+pub struct Compiled {
+    pub words: String,
+    /// The plain formula, unless it is much too long to look at.
+    pub formula: Option<String>,
 }
 
 /// A formula as text, with the bytes that each clause of its tape comes from.
 #[derive(Clone, Debug)]
 pub struct Text {
-    /// With spaces for line ends and for lines that begin with #, so that bytes are where they are in the file.
+    /// As the proved reader has read it: with spaces for line ends and for lines that begin with #, so that bytes are
+    /// where they are in the file; or what a text with names and the like expands to.
     pub formula: String,
     pub spans: Vec<Span>,
 }
@@ -54,34 +67,71 @@ impl Part {
             Some(b"GR") if !is_text => {
                 let own = OwnGrid::of_record(&bytes).ok_or_else(|| Stop::refused(Refusal::NoGridRecord, &name))?;
                 let tape = Tape::from_bytes(&bytes[RECORD..]).map_err(|refusal| Stop::refused(refusal, &name))?;
-                Ok(Part { name, tape, text: None, own: Some(own) })
+                Ok(Part { name, tape, text: None, own: Some(own), compiled: None })
             }
             Some(b"TP") if !is_text => {
                 let tape = Tape::from_bytes(&bytes[..]).map_err(|refusal| Stop::refused(refusal, &name))?;
-                Ok(Part { name, tape, text: None, own: None })
+                Ok(Part { name, tape, text: None, own: None, compiled: None })
             }
             _ => {
                 let own = OwnGrid::of_text(&bytes)
                     .map_err(|line| Stop::Usage(format!("{name}: '{line}' is no grid: {GRID_LINES}")))?;
-                Ok(Part { own, ..Part::of_text(name, plain(&bytes))? })
+                Ok(Part { own, ..Part::of_text(name, bytes)? })
+            }
+        }
+    }
+
+    /// The part that a manifest has.
+    pub fn of_source(name: &str, source: &Source) -> Result<Part, Stop> {
+        match source {
+            Source::Formula(formula) => Part::of_text(name.to_string(), formula.as_bytes().to_vec()),
+            Source::Tape(bytes) => {
+                let tape = Tape::from_bytes(&bytes[..]).map_err(|refusal| Stop::refused(refusal, name))?;
+                Ok(Part { name: name.to_string(), tape, text: None, own: None, compiled: None })
             }
         }
     }
 
     /// The part of a formula that is given in the command.
     pub fn of_formula(formula: &str) -> Result<Part, Stop> {
-        Part::of_text("the formula".to_string(), plain(formula.as_bytes()))
+        Part::of_text("the formula".to_string(), formula.as_bytes().to_vec())
     }
 
+    /// A text as the proved reader takes it, or as people write formulas: then what it expands to.
     fn of_text(name: String, bytes: Vec<u8>) -> Result<Part, Stop> {
-        let formula = String::from_utf8(bytes).map_err(|error| Stop::Refused {
+        let source = String::from_utf8(bytes).map_err(|error| Stop::Refused {
             number: Refusal::BrokenText.number(),
             place: Place::Byte(error.utf8_error().valid_up_to()),
             words: format!("{name}: not a text: {}", Refusal::BrokenText),
         })?;
-        let tape = Tape::from_text(&formula).map_err(|error| Stop::broken(&error, &format!("{name}: ")))?;
-        let spans = spans(&formula).filter(|spans| agree(spans, &tape)).unwrap_or_default();
-        Ok(Part { name, tape, text: Some(Text { formula, spans }), own: None })
+        let formula = plain(&source);
+        if let Ok(tape) = Tape::from_text(&formula) {
+            let text = Some(Text::new(formula, &tape));
+            return Ok(Part { name, tape, text, own: None, compiled: None });
+        }
+        match expanded(&source).map_err(|unread| unread.stop(&name, &source))? {
+            Expanded::Plain { formula, tape } => {
+                let text = Some(Text::new(formula, &tape));
+                Ok(Part { name, tape, text, own: None, compiled: None })
+            }
+            Expanded::Compiled { formula, tape, points } => {
+                let compiled = Some(Compiled { words: compiled_words(&name, &tape, points), formula });
+                Ok(Part { name, tape, text: None, own: None, compiled })
+            }
+        }
+    }
+
+    /// What has to be said whenever the part is used.
+    pub fn remark(&self) -> Option<String> {
+        self.compiled.as_ref().map(|compiled| compiled.words.clone())
+    }
+
+    /// The plain formula, if it is a text and not much too long to look at.
+    pub fn formula(&self) -> Option<String> {
+        match (&self.text, &self.compiled) {
+            (Some(text), _) => Some(one_line(&text.formula)),
+            (None, compiled) => compiled.as_ref()?.formula.clone(),
+        }
     }
 
     /// What a clause of the tape is called in messages: its text and byte, or its number.
@@ -103,6 +153,47 @@ impl Part {
             Some(shown(text, span))
         });
         operand.unwrap_or_else(|| format!("slot {}", self.tape.clauses()[clause].left))
+    }
+}
+
+impl Text {
+    fn new(formula: String, tape: &Tape) -> Text {
+        let spans = spans(&formula).filter(|spans| agree(spans, tape)).unwrap_or_default();
+        Text { formula, spans }
+    }
+}
+
+fn compiled_words(name: &str, tape: &Tape, points: usize) -> String {
+    let (clauses, slots) = (grouped(tape.clauses().len() as u128), tape.slots());
+    format!(
+        "{name}: too large for the proved reader of texts; compiled by this program with equal parts shared, {clauses} \
+         clauses in {slots} slots. This step is not proved: its values are the formula's at {} random points",
+        grouped(points as u128)
+    )
+}
+
+impl Unread {
+    fn stop(self, name: &str, source: &str) -> Stop {
+        let refused = |refusal: Refusal, place: Place, words: String| Stop::Refused {
+            number: refusal.number(),
+            place,
+            words: format!("{name}: {words}"),
+        };
+        match self {
+            Unread::Wrong(wrong) => refused(Refusal::BrokenText, Place::Byte(wrong.at), wrong.shown(source)),
+            Unread::TooBig(Some(clauses)) => {
+                let (clauses, most) = (grouped(clauses as u128), grouped(MAX_CLAUSES as u128));
+                let words = format!("{clauses} clauses with equal parts shared, and a tape has at most {most}");
+                refused(Refusal::LargeFormula, Place::Whole, words)
+            }
+            Unread::TooBig(None) => {
+                let words = format!("more than {MAX_SLOTS} values wait at once, the slots of a tape");
+                refused(Refusal::LargeFormula, Place::Whole, words)
+            }
+            Unread::Apart(sample) => Stop::Failed(format!(
+                "{name}: the compiled tape has another value than the formula at {sample:?} units: please report this"
+            )),
+        }
     }
 }
 
@@ -140,12 +231,15 @@ fn bytes_of(path: &Path) -> Result<Vec<u8>, Stop> {
     Ok(bytes)
 }
 
-/// The text with spaces for lines that begin with # and for line ends.
-fn plain(bytes: &[u8]) -> Vec<u8> {
-    let mut plain = Vec::with_capacity(bytes.len());
-    for line in bytes.split_inclusive(|byte| *byte == b'\n') {
-        let comment = line.first() == Some(&b'#');
-        plain.extend(line.iter().map(|byte| if comment || matches!(byte, b'\n' | b'\r') { b' ' } else { *byte }));
+/// The text with spaces for lines that begin with # and for line ends, so that bytes are where they are in the file.
+fn plain(text: &str) -> String {
+    let mut plain = String::with_capacity(text.len());
+    for line in text.split_inclusive('\n') {
+        if line.starts_with('#') {
+            plain.extend(std::iter::repeat_n(' ', line.len()));
+        } else {
+            plain.extend(line.chars().map(|c| if matches!(c, '\n' | '\r') { ' ' } else { c }));
+        }
     }
     plain
 }

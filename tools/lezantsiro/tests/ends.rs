@@ -28,10 +28,11 @@ fn every_refusal_has_its_number_place_and_words() {
         (
             "broken.txt",
             b"max(x - 24, 8 - root(y)".to_vec(),
-            "refused 17 at byte 23: broken.txt: the text ends too early",
+            "refused 17 at byte 23: broken.txt: line 1: the text ends too early: expected is a sign such as + or *, \
+             `,` or `)`\n    max(x - 24, 8 - root(y)\n                           ^",
         ),
-        ("deep.txt", "(".repeat(40).into_bytes(), "refused 18 at byte 32: deep.txt: `(` at byte 32 opens inside"),
-        ("large.txt", vec!["x"; 600].join("+").into_bytes(), "refused 19 at 0: large.txt: "),
+        ("deep.txt", "(".repeat(300).into_bytes(), "refused 17 at byte 200: deep.txt: line 1: more than 200 brackets"),
+        ("large.txt", large(), "refused 19 at 0: large.txt: 6,400 clauses with equal parts shared"),
     ];
     for (name, bytes, words) in parts {
         folder.write(name, bytes);
@@ -54,6 +55,12 @@ fn every_refusal_has_its_number_place_and_words() {
         assert_eq!(ended.status, Some(1), "{words}: {}", ended.err);
         assert!(ended.err.starts_with(&format!("lezantsiro: {said}")), "{words}: {}", ended.err);
     }
+}
+
+/// A sum whose terms are all different.
+fn large() -> Vec<u8> {
+    let terms: Vec<String> = (0..1600).map(|i| format!("abs(x - {i})")).collect();
+    terms.join(" + ").into_bytes()
 }
 
 /// A tape whose clauses or slots are all taken has no room for an exact pitch; the nearest step needs none.
