@@ -13,11 +13,12 @@ use Rattle.rules.specs.Drawings.{Grid, gridFault}
 use Rattle.rules.proofs.Lines.{each-line, lines-after}
 use Rattle.table_rules.specs.Tables.{headLength, tableLength, flatGrid, tableHead, sameBytes, tableOk}
 use Rattle.table_rules.specs.Tables.{Rectangle, beginLines, beginFault, ownLines, lentLines, tableFault}
-use Rattle.table_rules.specs.Tables.{drawLines, drawFault, Answer}
+use Rattle.table_rules.specs.Tables.{drawFault, Answer}
 use Rattle.table_rules.specs.Turns.{Truthful, TrueTable, partDrawn, Call, begins, draws, World, Begins, Draws}
 use Rattle.table_rules.specs.Turns.{Follows, Turn, turnOf, Run, none, next, userOf, isOwn, pictureAfter, Stays}
 use Rattle.table_rules.specs.Turns.{OnePicture, headFault, ownFault, ownNumber, pictureAlone, returning, returnOf}
 use Rattle.table_rules.specs.Turns.{returnsAlone, ownReturns, callsOf, withoutOthers, SameFor}
+use Rattle.table_rules.proofs.TableLines.{draw-clear}
 use Rattle.table_rules.proofs.Heads.{tape-fits, same-bytes, head-tape, head-grid}
 use Rattle.table_rules.proofs.Calls.{never-refused, moved, one-caller, refused-left, draw-done, begin-done}
 use Rattle.table_rules.proofs.Calls.{step-picture, outcome}
@@ -139,8 +140,8 @@ module _ (s : List ℕ) (d : Grid) (good : readTape s .number ≡ 0) (fine : gri
       go : (t : Bool) → eqb n 0 ≡ t → Ours (m .table)
       go true h =
           let z : n ≡ 0 = eqb-true n 0 h in
-          let line = each-line (drawLines s′ (flatGrid d′) q (w .table) (length (w .pictures u)) (length k)) z in
-          let same = one-caller s′ s d′ d (w .table) (line 0) good (line 2) fine a (line 3) in
+          let clear = draw-clear s′ (flatGrid d′) q (w .table) (length (w .pictures u)) (length k) z in
+          let same = one-caller s′ s d′ d (w .table) (clear .read) good (clear .grid) fine a (clear .table) in
           moved s s′ (flatGrid d) (flatGrid d′) (m .table) (sym (same .0), sym (same .1))
           (draw-done s′ d′ q (w .table) (m .table) (w .pictures u) (m .pictures u) k (f .work) r
           (true-table (w .table) a) (f .says) (f .says .answer .number ∙ z) .table)

@@ -22,10 +22,11 @@ use Rattle.order_rules.specs.Orders.{cleared}
 use Rattle.table_rules.specs.Tables.{headLength, tileLimit, tableLength, flatGrid, tableHead, begun, tileOf}
 use Rattle.table_rules.specs.Tables.{entryIn, entryOk, entriesOk, sameBytes, tableOk, Rectangle, rectangleOk}
 use Rattle.table_rules.specs.Tables.{tilesIn, turn, laid, beginLines, beginFault}
-use Rattle.table_rules.specs.Tables.{tableFault, drawLines, drawFault, Answer, written, BeginSays, DrawSays}
+use Rattle.table_rules.specs.Tables.{tableFault, drawFault, Answer, written, BeginSays, DrawSays}
 use Rattle.table_rules.specs.Turns.{TrueEntry, Truthful, walkOver, knownIn, TrueTable, partDrawn, TrulyDrawn}
 use Rattle.table_rules.specs.Turns.{Call, begins, draws, World, Draws, Follows, Turn, Run, none, next}
 use Rattle.table_rules.specs.Turns.{DoneTruly, pictureAfter, pictureBy}
+use Rattle.table_rules.proofs.TableLines.{off, draw-clear}
 use Rattle.table_rules.proofs.KeptMarks.{entry-of-ok, unknown-ok}
 use Rattle.table_rules.proofs.Heads.{tape-fits, begun-size, begun-head, begun-entry, same-bytes, bytes-same}
 use Rattle.table_rules.proofs.Heads.{head-tape, head-grid}
@@ -66,9 +67,6 @@ module _ (s : List ℕ) (g : Grid) (good : readTape s .number ≡ 0) (b : List �
   never-refused = rw true-ok
 
 -- A table that passes line 24 has the caller's head.
-pub off : (t : Bool) (n : ℕ) → when (not t) (suc n) ≡ 0 → t ≡ true
-off t n e = not-false t (last-off (not t) n e)
-
 head-passed : (s : List ℕ) (g : Grid) (b : List ℕ) → tableFault s g b ≡ 0 → take headLength b ≡ tableHead s g
 unfolding tableOk
 head-passed s g b e =
@@ -111,13 +109,13 @@ draw-done s d q b b′ o o′ w w′ r a says e =
     let t = readTape s .tape in
     let n = drawFault s g q b (length o) (length w) in
     let z : n ≡ 0 = sym (says .answer .number) ∙ e in
-    let line = each-line (drawLines s g q b (length o) (length w)) z in
-    let good : readTape s .number ≡ 0 = line 0 in
-    let fine : gridFault false g ≡ 0 = line 2 in
+    let clear = draw-clear s g q b (length o) (length w) z in
+    let good : readTape s .number ≡ 0 = clear .read in
+    let fine : gridFault false g ≡ 0 = clear .grid in
     let flat : solid g ≡ false = refl in
     let sound = accepted-sound g false refl fine in
-    let inside = in-tiles g q (off (rectangleOk g q) 9 (line 1)) in
-    let f = same-caller s (a .bytes) d (a .grid) b good (a .read) fine (a .accepted) (a .truthful) (line 3) in
+    let inside = in-tiles g q (clear .rectangle) in
+    let f = same-caller s (a .bytes) d (a .grid) b good (a .read) fine (a .accepted) (a .truthful) (clear .table) in
     let u = tiles-turned s good g flat (sound .fits) (tilesIn g q) 0 (tiles-rising g q inside) (cleared g) b f in
     let made = turn t g q b in
     let c : r .count ≡ made .drawing .clauses =
@@ -146,12 +144,12 @@ draw-keeps s d q b b′ o o′ w w′ r a says = go (eqb n 0) refl
     go : (t : Bool) → eqb n 0 ≡ t → TrueTable b′
     go true e =
         let z : n ≡ 0 = eqb-true n 0 e in
-        let line = each-line (drawLines s (flatGrid d) q b (length o) (length w)) z in
+        let clear = draw-clear s (flatGrid d) q b (length o) (length w) z in
         record {
           bytes = s;
           grid = d;
-          read = line 0;
-          accepted = line 2;
+          read = clear .read;
+          accepted = clear .grid;
           truthful = draw-done s d q b b′ o o′ w w′ r a says (says .answer .number ∙ z) .table;
         }
     go false e =

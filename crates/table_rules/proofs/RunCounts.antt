@@ -15,13 +15,14 @@ use Rattle.rules.proofs.Lines.{each-line}
 use Rattle.rules.proofs.Grids.{accepted-sound}
 use Rattle.order_rules.specs.Orders.{cleared, total}
 use Rattle.table_rules.specs.Tables.{flatGrid, begun, tileOf, Rectangle, rectangleOk, tilesIn, turn}
-use Rattle.table_rules.specs.Tables.{beginLines, beginFault, drawLines, drawFault, Answer, BeginSays, DrawSays}
+use Rattle.table_rules.specs.Tables.{beginLines, beginFault, drawFault, Answer, BeginSays, DrawSays}
 use Rattle.table_rules.specs.Turns.{walkOver, TrueTable, Call, begins, draws, World, Begins, Draws, Follows}
 use Rattle.table_rules.specs.Turns.{Turn, Run, none, next, tilePart, countIn, Knows, knownThen, knownAfter}
+use Rattle.table_rules.proofs.TableLines.{draw-clear}
 use Rattle.table_rules.proofs.Heads.{tape-fits}
 use Rattle.table_rules.proofs.Numbers.{in-tiles, tiles-rising}
 use Rattle.table_rules.proofs.Drawn.{flat-sides}
-use Rattle.table_rules.proofs.Calls.{off, same-caller, done-left, refused-left, draw-done, step-keeps}
+use Rattle.table_rules.proofs.Calls.{same-caller, done-left, refused-left, draw-done, step-keeps}
 use Rattle.table_rules.proofs.Calls.{run-keeps, begin-true}
 use Rattle.table_rules.proofs.Counts.{begun-knows, known-count, turn-knows, parts-added}
 
@@ -65,14 +66,14 @@ draw-knows u s d q b b′ o o′ w w′ r K a says f = go (eqb (r .number) 0) re
     go : (t : Bool) → eqb (r .number) 0 ≡ t → Knows b′ (pick t (λ i. isIn i (tilesIn g q) || K i) K)
     go true e =
         let z : n ≡ 0 = sym (says .answer .number) ∙ eqb-true (r .number) 0 e in
-        let line = each-line (drawLines s g q b (length o) (length w)) z in
-        let sound = accepted-sound g false refl (line 2) in
-        let inside = in-tiles g q (off (rectangleOk g q) 9 (line 1)) in
-        let true-of = same-caller s (a .bytes) d (a .grid) b (line 0) (a .read) (line 2) (a .accepted) (a .truthful)
-        (line 3) in
+        let clear = draw-clear s g q b (length o) (length w) z in
+        let sound = accepted-sound g false refl (clear .grid) in
+        let inside = in-tiles g q (clear .rectangle) in
+        let true-of = same-caller s (a .bytes) d (a .grid) b (clear .read) (a .read) (clear .grid) (a .accepted) (a .truthful)
+        (clear .table) in
         subst (λ x. Knows x (λ i. isIn i (tilesIn g q) || K i))
         (sym (done-left n (turn (readTape s .tape) g q b .table) b b′ z (says .table)))
-        (turn-knows s (line 0) g refl (sound .fits) q inside b K true-of f)
+        (turn-knows s (clear .read) g refl (sound .fits) q inside b K true-of f)
     go false e =
         subst (λ x. Knows x K)
         (sym (refused-left n (turn (readTape s .tape) g q b .table) b b′
@@ -106,12 +107,12 @@ run-count {w} {m} {w′} {ks} run a K k u s d q l r f e =
     let b = m .table in
     let says = f .says in
     let z = sym (says .answer .number) ∙ e in
-    let line = each-line (drawLines s g q b (length (m .pictures u)) (length l)) z in
-    let sound = accepted-sound g false refl (line 2) in
-    let inside = in-tiles g q (off (rectangleOk g q) 9 (line 1)) in
+    let clear = draw-clear s g q b (length (m .pictures u)) (length l) z in
+    let sound = accepted-sound g false refl (clear .grid) in
+    let inside = in-tiles g q (clear .rectangle) in
     let done = draw-done s d q b (w′ .table) (m .pictures u) (w′ .pictures u) l (f .work) r (run-keeps run a) says e in
     ap (λ c. r .count + c * length (t .clauses))
-    (sym (known-count s (line 0) g refl (sound .fits) b (knownAfter ks K) (run-knows run a K k) 0 is
+    (sym (known-count s (clear .read) g refl (sound .fits) b (knownAfter ks K) (run-knows run a K k) 0 is
     (tiles-rising g q inside)))
     ∙ done .count
     ∙ ap (λ ns. fold (λ p y. visit ns t g p y) (map (tileOf g) is) (cleared g) .clauses) (flat-sides g refl)

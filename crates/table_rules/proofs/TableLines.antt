@@ -1,16 +1,19 @@
 -- The lines of both calls in their order, as facts and as figures.
 use mathlib.Core.Path.{_≡_, refl}
-use mathlib.Core.Bool.{true, false}
+use mathlib.Core.Bool.{Bool, true, false, not}
 use mathlib.Core.List.{List, [], _∷_}
-use Prim.Native.Nat.{ℕ, _<_, _≤_}
-use borrow.Author.Tests.{eq-eqb, ne-eqb, lt-ltb, le-ltb}
+use Prim.Native.Nat.{ℕ, suc, _<_, _≤_}
+use borrow.Author.Tests.{eq-eqb, ne-eqb, lt-ltb, le-ltb, not-false}
+use Rattle.rules.specs.Values.{when}
 use Rattle.rules.specs.Tapes.{isIn, badSlot, badUnused, badConstant, badRead, clauseFault, faultFrom, readClauses}
 use Rattle.rules.specs.Tapes.{countsOk, headCounts, edition, signed4, rawIn, rawsFrom, headOk, readTape}
 use Rattle.rules.specs.Drawings.{workLimit, Grid, gridFault}
 use Rattle.rules.specs.Pictures.{pictureSize}
-use Rattle.rules.proofs.Lines.{first-here}
+use Rattle.rules.proofs.Tests.{last-off}
+use Rattle.rules.proofs.Lines.{first-here, each-line}
 use Rattle.worked_example.proofs.Example.{threeBytes, gridOf}
-use Rattle.table_rules.specs.Tables.{tableLength, flatGrid, tableOk, Rectangle, rectangleOk, beginFault, drawFault}
+use Rattle.table_rules.specs.Tables.{tableLength, flatGrid, tableOk, Rectangle, rectangleOk, beginFault}
+use Rattle.table_rules.specs.Tables.{tableFault, drawLines, drawFault}
 
 -- Calls with two faults or more, of x − 2 on 3 by 2 or on another size or step, with a table of no bytes: the rectangle
 -- leaves the grid and a step is 0; a step is 0 and the table's length is wrong; this and the picture's and the work
@@ -79,3 +82,19 @@ draw-order s g q b n m =
       work = λ a r c t e f. rw (a, r, c, t, eq-eqb n p e, lt-ltb m workLimit f);
       done = λ a r c t e f. rw (a, r, c, t, eq-eqb n p e, le-ltb m workLimit f);
     }
+
+-- What a drawing that is not refused has passed.
+pub record DrawClear (s : List ℕ) (g : Grid) (q : Rectangle) (b : List ℕ) : Type 0 where
+  pub read : readTape s .number ≡ 0
+  pub rectangle : rectangleOk g q ≡ true
+  pub grid : gridFault false g ≡ 0
+  pub table : tableFault s g b ≡ 0
+
+pub off : (t : Bool) (n : ℕ) → when (not t) (suc n) ≡ 0 → t ≡ true
+off t n e = not-false t (last-off (not t) n e)
+
+pub draw-clear : (s : List ℕ) (g : Grid) (q : Rectangle) (b : List ℕ) (n m : ℕ) → drawFault s g q b n m ≡ 0
+    → DrawClear s g q b
+draw-clear s g q b n m e =
+    let line = each-line (drawLines s g q b n m) e in
+    record { read = line 0; rectangle = off (rectangleOk g q) 9 (line 1); grid = line 2; table = line 3 }
