@@ -100,17 +100,29 @@ def text(formula):
 
 
 def units(length):
-    """A length in units, rounded down."""
-    return int(length * ONE // 1)
+    """A length in units, rounded down. One that no number of 32 bits has is an error, as ctypes would wrap it."""
+    found = int(length * ONE // 1)
+    if not -(2**31) <= found < 2**31:
+        raise OverflowError(f"{length} is beyond 32,768")
+    return found
+
+
+def _sizes(*sizes):
+    for size in sizes:
+        if not 0 <= size < 2**32:
+            raise OverflowError(f"{size} is no size")
+    return sizes
 
 
 def flat(width, height, step, origin=(0.0, 0.0), z=0.0):
     """The grid of one layer: pixels of side `step` from `origin` on, at the height `z`."""
+    width, height = _sizes(width, height)
     return Grid(width, height, 0, units(origin[0]), units(origin[1]), units(z), units(step), units(step), 1)
 
 
 def solid(width, height, depth, step, origin=(0.0, 0.0, 0.0)):
     """The grid of a solid: cells of side `step` from `origin` on."""
+    width, height, depth = _sizes(width, height, depth)
     return Grid(width, height, depth, *(units(at) for at in origin), *(units(step) for _ in range(3)))
 
 

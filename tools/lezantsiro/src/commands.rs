@@ -122,7 +122,8 @@ fn timing(done: &Done) -> Option<String> {
     })
 }
 
-fn off_words(plate: &Plate) -> Option<String> {
+/// How far the nearest step is off, if it was asked for.
+pub fn off_words(plate: &Plate) -> Option<String> {
     let off = plate.x.off().max(plate.y.off());
     let pixels = (off / plate.pitch[0]).to_f64();
     (!plate.x.exact).then(|| format!("nearest step: the far edge is {} mm off, {pixels:.2} pixels", off.decimal()))
@@ -300,5 +301,7 @@ fn expand(args: &ExpandArgs) -> Result<Said, Stop> {
         ("slots", Value::Whole(part.tape.slots().into())),
         ("edition", Value::Whole(part.tape.edition().into())),
     ]);
-    Ok(Said::well(vec![formula], value))
+    // a formula that the proved reader does not take is not handed on in silence
+    let stop = part.remark().map(|words| Stop::Failed(format!("{words}; the plain formula is for looking at")));
+    Ok(Said { lines: vec![formula], value, stop })
 }

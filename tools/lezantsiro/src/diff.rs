@@ -46,6 +46,10 @@ pub fn run(args: &DiffArgs) -> Result<Said, Stop> {
         ),
     }];
     let mut file = Value::Null;
+    if layers == 0 {
+        // one of an earlier comparison would look like an answer
+        let _ = std::fs::remove_file(&args.out);
+    }
     if layers > 0 {
         shown(&args.out, first.heading.size, &found)?;
         lines.push(format!("{}: where, by how many layers, from violet for one to yellow", args.out.display()));

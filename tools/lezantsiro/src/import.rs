@@ -41,12 +41,13 @@ pub fn run(args: &ImportArgs) -> Result<Said, Stop> {
         match model.rounded {
             0 => "every constant is a whole number of units of 1/65,536".to_string(),
             n => format!(
-                "{} constants are rounded to the nearest 1/65,536, by at most {:.7} of the model's lengths, {:.7} mm",
+                "{} constants are rounded to the nearest 1/65,536, by at most {:.7}; {:.7} mm where one is a length",
                 grouped(n as u128),
                 model.furthest,
                 model.furthest * args.scale.to_f64()
             ),
         },
+        format!("coordinates are those of the model, in steps of {:.7} mm", args.scale.to_f64() / 65_536.0),
     ];
     let value = Value::object([
         ("status", Value::Whole(0)),
@@ -107,7 +108,9 @@ fn model(source: &str, scale: Fraction) -> Result<Model, Wrong> {
         let words: Vec<&str> = words.split('#').next().unwrap_or("").split_whitespace().collect();
         if let [name, operation, operands @ ..] = &words[..] {
             let id = reader.clause(operation, operands).map_err(|words| Wrong::Line(line + 1, words))?;
-            reader.names.insert(name.to_string(), id);
+            if reader.names.insert(name.to_string(), id).is_some() {
+                return Err(Wrong::Line(line + 1, format!("`{name}` was given before")));
+            }
             last = Some(id);
             lines += 1;
         } else if !words.is_empty() {
@@ -261,6 +264,7 @@ mod tests {
             ("a var-x\nb add a", 2, "takes two operands, not 1"),
             ("a var-x\nb neg a a", 2, "takes one operand, not 2"),
             ("a", 1, "`a` is no clause"),
+            ("a var-x\na var-y", 2, "`a` was given before"),
         ] {
             match scaled(source, "1").map(|model| model.lines) {
                 Err(Wrong::Line(at, said)) => assert!(at == line && said.contains(words), "{source}: {at}: {said}"),

@@ -44,6 +44,8 @@ pub struct Text {
     /// where they are in the file; or what a text with names and the like expands to.
     pub formula: String,
     pub spans: Vec<Span>,
+    /// Whether its bytes are not those of a file.
+    pub expanded: bool,
 }
 
 /// The grid of a record, or of a line of a text.
@@ -106,12 +108,12 @@ impl Part {
         })?;
         let formula = plain(&source);
         if let Ok(tape) = Tape::from_text(&formula) {
-            let text = Some(Text::new(formula, &tape));
+            let text = Some(Text::new(formula, &tape, false));
             return Ok(Part { name, tape, text, own: None, compiled: None });
         }
         match expanded(&source).map_err(|unread| unread.stop(&name, &source))? {
             Expanded::Plain { formula, tape } => {
-                let text = Some(Text::new(formula, &tape));
+                let text = Some(Text::new(formula, &tape, true));
                 Ok(Part { name, tape, text, own: None, compiled: None })
             }
             Expanded::Compiled { formula, tape, points } => {
@@ -138,6 +140,7 @@ impl Part {
     pub fn clause_name(&self, clause: usize) -> String {
         let span = self.text.as_ref().and_then(|text| Some((text, text.spans.get(clause)?)));
         match span {
+            Some((text, span)) if text.expanded => shown(text, span),
             Some((text, span)) => format!("{} at byte {}", shown(text, span), span.bytes.start),
             None => {
                 format!("clause {clause} (counted from 0, {:?})", self.tape.clauses()[clause].opcode).to_lowercase()
@@ -157,9 +160,9 @@ impl Part {
 }
 
 impl Text {
-    fn new(formula: String, tape: &Tape) -> Text {
+    fn new(formula: String, tape: &Tape, expanded: bool) -> Text {
         let spans = spans(&formula).filter(|spans| agree(spans, tape)).unwrap_or_default();
-        Text { formula, spans }
+        Text { formula, spans, expanded }
     }
 }
 
@@ -190,6 +193,7 @@ impl Unread {
                 let words = format!("more than {MAX_SLOTS} values wait at once, the slots of a tape");
                 refused(Refusal::LargeFormula, Place::Whole, words)
             }
+            Unread::NoRoom => Stop::Failed(format!("{name}: there is no room to read it in")),
             Unread::Apart(sample) => Stop::Failed(format!(
                 "{name}: the compiled tape has another value than the formula at {sample:?} units: please report this"
             )),

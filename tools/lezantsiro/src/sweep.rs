@@ -1,9 +1,11 @@
 //! What a part sweeps along a path: the first position that covers each pixel, by the core's own call, block by block.
 
 use crate::args::SweepArgs;
-use crate::commands::Said;
+use crate::clamp;
+use crate::commands::{Said, off_words};
 use crate::diff::save;
 use crate::messages::{Stop, grouped, text};
+use crate::part::Part;
 use crate::plate::{Block, Plate};
 use crate::setup;
 use crate::stack::tape_for;
@@ -23,6 +25,7 @@ pub fn run(args: &SweepArgs) -> Result<Said, Stop> {
     let plate = setup::plate(&args.plate, &part, 1)?;
     let z = setup::level(args.z, &part)?.units(0);
     let path = path_of(&args.path)?;
+    let clamped = guarded(&part, &plate, z, &path, args.plate.allow_clamped)?;
     let tape = tape_for(&part.tape, &plate)?;
     let z = i32::try_from(z).map_err(|_| Stop::from(Refusal::SampleOutOfRange))?;
     let moved = steps(&plate, &path)?;
@@ -58,6 +61,8 @@ pub fn run(args: &SweepArgs) -> Result<Said, Stop> {
         ),
         format!("{}: in colour by the first position that covers a pixel, with its scale", png.display()),
     ];
+    lines.extend(clamped.map(|words| format!("clamped, as allowed: {words}")));
+    lines.extend(off_words(&plate));
     lines.extend(part.remark());
     let value = Value::object([
         ("status", Value::Whole(0)),
@@ -67,6 +72,23 @@ pub fn run(args: &SweepArgs) -> Result<Said, Stop> {
         ("swept", Value::Whole(swept as i128)),
     ]);
     Ok(Said::well(lines, value))
+}
+
+/// What clamps on the plate less the offsets, in words; stops unless that is allowed.
+fn guarded(part: &Part, plate: &Plate, z: i128, path: &[Offset], allowed: bool) -> Result<Option<String>, Stop> {
+    let moved = |axis: usize, range: [i128; 2]| {
+        let offsets = path.iter().map(|offset| offset[axis].floor_units());
+        let (least, most) = offsets.fold((i128::MAX, i128::MIN), |(low, high), at| (low.min(at), high.max(at)));
+        [range[0] - most - 1, range[1] - least]
+    };
+    let ranges = [moved(0, plate.x.range()), moved(1, plate.y.range())];
+    let found = clamp::clamped(&part.tape.clauses(), ranges[0], ranges[1], &[z]);
+    match found.map(|found| format!("{}: {}", part.name, clamp::words(part, &found))) {
+        Some(words) if !allowed => {
+            Err(Stop::Failed(format!("{words}; nothing is drawn (--allow-clamped draws it all the same)")))
+        }
+        words => Ok(words),
+    }
 }
 
 /// The path of a file: a line a position, x and y in mm with a comma or a semicolon between. A first line of words, and
@@ -81,7 +103,7 @@ fn path_of(file: &Path) -> Result<Vec<Offset>, Stop> {
         }
         match offset(words) {
             Some(offset) => path.push(offset),
-            None if line == 0 && words.contains(char::is_alphabetic) => {}
+            None if line == 0 && is_heading(words) => {}
             None => {
                 let place = format!("{}, line {}", file.display(), line + 1);
                 return Err(Stop::Usage(format!("{place}: '{words}' is no position such as 12.5,-3: x and y in mm")));
@@ -93,6 +115,12 @@ fn path_of(file: &Path) -> Result<Vec<Offset>, Stop> {
         return Err(Stop::refused(Refusal::PathOutOfRange, &words));
     }
     Ok(path)
+}
+
+/// Whether no field of a line begins as a number does: then it names the columns.
+fn is_heading(words: &str) -> bool {
+    let number = |field: &str| field.trim().starts_with(|c: char| c.is_ascii_digit() || "+-.".contains(c));
+    !words.split([',', ';']).any(number)
 }
 
 fn offset(words: &str) -> Option<Offset> {
@@ -159,7 +187,9 @@ mod tests {
             read("x,y\n1.5,-2\n\n# a comment\n0; 1/4 # here\n").expect("a path"),
             [["1.5", "-2"], ["0", "0.25"]]
         );
-        for (words, said) in [("", "0 positions"), ("1,2\nx,y", "line 2"), ("1\n", "line 1"), ("1,2,3", "line 1")] {
+        for (words, said) in
+            [("", "0 positions"), ("1,2\nx,y", "line 2"), ("1\n", "line 1"), ("1,2,3", "line 1"), ("1e1,0", "line 1")]
+        {
             let stop = read(words).expect_err(words);
             assert!(stop.to_string().contains(said), "{stop}");
         }

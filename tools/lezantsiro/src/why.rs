@@ -73,6 +73,9 @@ fn asked(args: &WhyArgs) -> Result<Asked, Stop> {
         Ok(Asked { part, plate, z, layer, up: heading.up })
     };
     match &args.part.part {
+        Some(dir) if dir.is_dir() && args.z.is_some() => {
+            Err(Stop::Usage(format!("{} has layers: give --layer in the place of --z", dir.display())))
+        }
         Some(dir) if dir.is_dir() => {
             let folder = Folder::read(dir)?;
             let part = Part::of_source(&dir.display().to_string(), &folder.heading.source)?;
@@ -118,7 +121,9 @@ fn sentence(asked: &Asked, (column, row): (u32, u32), reason: &Reason) -> String
         _ => format!("over its {side} by {side} samples the formula lies from {low} to {high}, {sign}"),
     };
     let left = format!("{clauses} clauses were left of the tape there");
-    format!("pixel {column}, {row} of layer {} {has}: {region}; {left}", asked.layer)
+    // of several samples a pixel, one is asked for; the mask has how many of them have material
+    let sample = if asked.plate.aa == 1 { "" } else { "the middle sample of " };
+    format!("{sample}pixel {column}, {row} of layer {} {has}: {region}; {left}", asked.layer)
 }
 
 /// The part of the formula that decided at a sample, or the number of its clause.

@@ -38,6 +38,8 @@ fn why_agrees_with_every_mask() {
         assert_eq!(folder.well(&format!("why ring.txt {flags} {asked}")).out, of_folder);
     }
     assert!(met.iter().all(|count| *count > 5), "{met:?}");
+    let by_z = folder.run("why out/ring --pixel 1,1 --z 3");
+    assert_eq!((by_z.status, by_z.err.contains("give --layer in the place of --z")), (Some(2), true));
 }
 
 #[test]

@@ -45,6 +45,10 @@ fn what_is_too_large_for_a_text_is_compiled_and_says_so() {
     let said = folder.well("check many.txt --size 64x48 --pitch 0.5mm").out;
     assert!(said.contains("too large for the proved reader of texts; compiled by this program"), "{said}");
     assert!(said.contains("This step is not proved: its values are the formula's at 2,000 random points"), "{said}");
+    // the plain formula can be looked at, and is not handed on in silence
+    let looked = folder.run("expand many.txt");
+    assert_eq!((looked.status, looked.err.contains("This step is not proved")), (Some(3), true), "{}", looked.err);
+    assert!(looked.out.starts_with("min("));
     folder.well("layer many.txt --z 1 --size 64x48 --pitch 0.5mm");
     folder.well("verify out/many --pixels 3072 --seed 6");
 }

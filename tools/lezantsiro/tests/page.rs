@@ -130,4 +130,14 @@ fn the_page_works_in_a_browser() {
     assert_eq!(text_of(&low, "agrees"), "agrees");
     assert_eq!(text_of(&low, "command"), "./lezantsiro why out/ring --pixel 40,20 --layer 0");
     assert!(low.contains("class=\"decided\""));
+    // the slider, moved by hand, changes the picture
+    let moved = "<script>addEventListener('load', () => setTimeout(() => { const s = document.getElementById('layer'); \
+        s.value = 11; s.dispatchEvent(new Event('input')); }, 500));</script></html>";
+    let page = String::from_utf8(folder.bytes("out/ring/view.html")).expect("a text");
+    folder.write("out/ring/view.html", page.replace("</html>", moved));
+    let slid = dom("layer=0&pixel=40,20");
+    assert!(
+        slid.contains(&format!("data-material=\"{}\"", material(11)))
+            && text_of(&slid, "where").starts_with("layer 11 ")
+    );
 }

@@ -5,10 +5,9 @@ use std::process::Command;
 #[test]
 fn the_module_draws_what_it_says() {
     let example = concat!(env!("CARGO_MANIFEST_DIR"), "/../../examples/layers.py");
-    let archive = concat!(env!("CARGO_MANIFEST_DIR"), "/../../target/staticlib/liblayers_c.a");
     let run = |words: &[&str]| Command::new("python3").args(words).output();
-    if run(&["--version"]).is_err() || !std::path::Path::new(archive).exists() {
-        eprintln!("left out: python3 or the archive is not at hand");
+    if run(&["--version"]).is_err() {
+        eprintln!("left out: python3 is not at hand");
         return;
     }
     let out = run(&[example]).expect("python3 runs");
@@ -27,4 +26,8 @@ fn the_module_draws_what_it_says() {
     let folder = concat!(env!("CARGO_MANIFEST_DIR"), "/../../examples");
     let out = run(&["-c", ramp, folder]).expect("python3 runs");
     assert_eq!(String::from_utf8_lossy(&out.stdout), "[0, 1, 1, 2]\n[-32768, 0, 65536]\n");
+    // what 32 bits cannot hold is an error, and not another place
+    let far = "import sys; sys.path.insert(0, sys.argv[1]); import layers as l; l.flat(8, 8, 40000.0)";
+    let out = run(&["-c", far, folder]).expect("python3 runs");
+    assert!(String::from_utf8_lossy(&out.stderr).contains("OverflowError: 40000.0 is beyond 32,768"));
 }

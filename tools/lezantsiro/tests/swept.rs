@@ -35,6 +35,10 @@ fn a_blade_sweeps_what_it_covers_first() {
         assert_eq!(at(5 * column + 2, 5 * row + 2), number(column, row), "{column}, {row}");
     }
     assert!(folder.path("plain/sweep.png").exists());
+    // offsets move samples to where the square clamps, and then nothing is drawn
+    folder.write("far.csv", "-300,0\n");
+    let far = folder.run("sweep --formula root(sqr(x)|+|sqr(y))|-|200 --z 0 --path far.csv --size 8x8 --pitch 1");
+    assert_eq!((far.status, far.err.contains("clamps where |x| > 181")), (Some(3), true), "{}", far.err);
     folder.write("none.csv", "x,y\n");
     let none = folder.run(&format!("{} --size 16x10 --pitch 1", blade.replace("path.csv", "none.csv")));
     assert_eq!(

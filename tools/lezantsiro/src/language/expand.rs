@@ -29,6 +29,8 @@ pub enum Unread {
     Wrong(Wrong),
     /// Equal parts shared, it still has this many clauses, or `None`: more slots than a tape.
     TooBig(Option<usize>),
+    /// The machine has no room for the work.
+    NoRoom,
     /// The compiled tape has another value than the tree. This must not happen.
     Apart([i32; 3]),
 }
@@ -54,7 +56,7 @@ pub fn expanded(text: &str) -> Result<Expanded, Unread> {
     let work = std::thread::Builder::new().stack_size(STACK).spawn(move || expanded_here(&owned));
     match work.map(|work| work.join()) {
         Ok(Ok(found)) => found,
-        _ => Err(Unread::TooBig(None)),
+        _ => Err(Unread::NoRoom),
     }
 }
 

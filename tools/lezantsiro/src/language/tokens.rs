@@ -82,6 +82,9 @@ fn number(digits: &str, at: usize) -> Result<f64, Wrong> {
     if decimals.is_empty() || decimals.contains('.') {
         return Err(Wrong::new(at, format_args!("`{digits}` is no number: one is written 12, 12.5 or .5")));
     }
+    if decimals.trim_end_matches('0').len() > 4 {
+        return Err(Wrong::new(at, format_args!("{digits} has more than 4 decimals, which is finer than any value")));
+    }
     let number: f64 = format!("0{whole}.{decimals}").parse().unwrap_or(GREATEST);
     if number >= GREATEST {
         return Err(Wrong::new(at, format_args!("{digits} is too large: numbers go up to 32767.9999")));
@@ -134,6 +137,7 @@ mod tests {
             ("x + 1.2.3", 4, "`1.2.3` is no number"),
             ("x + 2.", 4, "`2.` is no number"),
             ("32768", 0, "32768 is too large"),
+            ("x/.00004", 2, ".00004 has more than 4 decimals"),
             ("x;", 1, "parted by `,`"),
             ("\u{feff}x", 0, "byte order mark"),
             ("x\0", 1, "\\u{0}"),

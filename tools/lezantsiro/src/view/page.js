@@ -125,6 +125,9 @@ function sampleAt(column, row, a, b) {
   return [units(data.x, column * aa + a), units(data.y, rowOf(row) * aa + b), BigInt(shown[view.at].z)];
 }
 
+// As a shell takes it.
+const quoted = (words) => (/^[\w./-]+$/.test(words) ? words : `'${words.replaceAll("'", "'\\''")}'`);
+
 const mm = (v) => (Number(v) / 65536).toFixed(5).replace(/0+$/, "").replace(/\.$/, "");
 
 function say() {
@@ -154,7 +157,7 @@ function say() {
   by("agrees").innerHTML = agrees ? "agrees" : '<span class="bad">differs: run verify</span>';
   const index = heights.data[4 * (row * data.width + column)] * 256 + heights.data[4 * (row * data.width + column) + 1];
   by("height").textContent = index === 0 ? "none" : `layer ${index - 1}`;
-  by("command").textContent = `./lezantsiro why ${data.folder} --pixel ${column},${row} --layer ${layer.index}`;
+  by("command").textContent = `./lezantsiro why ${quoted(data.folder)} --pixel ${column},${row} --layer ${layer.index}`;
   mark(decidedBy(clauses, values));
 }
 
