@@ -21,8 +21,8 @@ fn a_blade_sweeps_what_it_covers_first() {
         let at = file.len() - 2 * 160 + 2 * (16 * (9 - row) + column);
         u16::from_be_bytes([file[at], file[at + 1]])
     };
-    // the sample of column c is at c + 1/2: covered from the step c on, 1 + c; row 4 only when the blade has gone up
-    assert_eq!([0, 1, 5, 10, 11].map(|column| number(column, 0)), [1, 1, 5, 10, 11]);
+    // the sample of column c is at c + 1/2, first covered at the step c; row 4 only when the blade has gone up
+    assert_eq!([0, 1, 5, 10, 11].map(|column| number(column, 0)), [1, 2, 6, 11, 0]);
     assert_eq!([number(10, 4), number(9, 4), number(12, 0)], [1 + 12, 1 + 12, 0]);
     // the same plate with a pitch that no grid has as it is: four pixels for one, with the same numbers
     folder.well(&format!("{blade} --size 80x50 --pitch 0.2 --out fine"));
