@@ -247,7 +247,7 @@ document.addEventListener("keydown", (event) => {
     0: () => { fit(); draw(); },
     h: () => { view.heights = !view.heights; go(view.at); },
   };
-  if (keys[event.key] && event.target.tagName !== "BUTTON") {
+  if (keys[event.key]) {
     event.preventDefault();
     keys[event.key]();
   }
