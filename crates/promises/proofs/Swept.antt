@@ -12,7 +12,7 @@ use Rattle.rules.specs.Drawings.{sampleAt}
 use Rattle.swept_rules.specs.Swept.{offsetsOf, movedSample, sweptAt, swept}
 use Rattle.swept_rules.specs.Keeping.{positionAt}
 use Rattle.swept_rules.proofs.Pictures.{swept-at}
-use Rattle.swept_rules.proofs.Calls.{First, first-cover, no-cover}
+use Rattle.swept_rules.proofs.Calls.{First, Uncovered, first-cover, no-cover, covered-by, uncovered-by}
 use Rattle.picture.specs.Shapes.{gridIn}
 use Rattle.picture.specs.declared.grid.Grid.{Grid}
 use Rattle.answers.specs.declared.Answer.{Answer}
@@ -40,3 +40,14 @@ module _ (s : List ℕ) (d : Grid) (zs : List ℤ) (o o′ w w′ : List ℕ) (r
       → material (readTape s .tape) (movedSample (positionAt (offsetsOf zs) k) (sampleAt (gridIn d false) i j 0)) ≡ false)
       → getD o′ (j * d .width + i) 0 ≡ 0
   pixel-none f = pixel-swept ∙ no-cover (readTape s .tape) (offsetsOf zs) (sampleAt (gridIn d false) i j 0) f
+
+  -- And from the number back: one above 0 is that of the first position that covers the pixel; 0 says that none does.
+  pub pixel-covered : (k : ℕ) → getD o′ (j * d .width + i) 0 ≡ suc k
+      → First (readTape s .tape) (offsetsOf zs) (sampleAt (gridIn d false) i j 0) k
+  pixel-covered k h =
+      covered-by (readTape s .tape) (offsetsOf zs) (sampleAt (gridIn d false) i j 0) k (sym pixel-swept ∙ h)
+
+  pub pixel-uncovered : getD o′ (j * d .width + i) 0 ≡ 0
+      → Uncovered (readTape s .tape) (offsetsOf zs) (sampleAt (gridIn d false) i j 0)
+  pixel-uncovered h =
+      uncovered-by (readTape s .tape) (offsetsOf zs) (sampleAt (gridIn d false) i j 0) (sym pixel-swept ∙ h)
