@@ -19,8 +19,7 @@ fn main() {
     files::solid();
     files::solid_in_full();
     orders::both_orders();
-    plates::come_and_go();
-    plates::other_bytes();
+    plates::one_plate();
     limits::most_clauses();
     limits::too_many_clauses();
     limits::sizes();
