@@ -3,6 +3,7 @@
 use bench::measure::in_turn;
 use layers::{Grid, Plate, Tape, fixed, raw};
 use parts::Part;
+use std::cell::RefCell;
 
 /// A plate of 64 tiles, each 17.5 wide, from −70 to 70.
 fn grid() -> Grid {
@@ -16,8 +17,8 @@ const SMALL: [(&str, &str); 2] = [("1", "root(sqr(x - 8.75) + sqr(y - 8.75)) - 6
 pub fn table(runs: usize) {
     let others: Vec<Tape> = parts::designed().into_iter().map(|Part { tape, .. }| tape).take(7).collect();
     println!("512², seven parts there, least of {runs} or more runs; ratios are medians of those in each turn.\n");
-    println!("| tiles touched | added and removed ms | all eight afresh ms | one change / afresh |");
-    println!("|--:|--:|--:|--:|");
+    println!("| tiles touched | added ms | removed ms | all eight afresh ms | added / afresh | removed / afresh |");
+    println!("|--:|--:|--:|--:|--:|--:|");
     for (tiles, small) in SMALL {
         row(tiles, &others, &Tape::from_text(small).expect("a formula"), runs);
     }
@@ -28,16 +29,17 @@ fn row(tiles: &str, others: &[Tape], small: &Tape, runs: usize) {
     for (place, part) in others.iter().enumerate() {
         plate.add(place as u32, part).expect("an empty place");
     }
-    let mut change = || {
-        plate.add(7, small).expect("an empty place");
-        plate.remove(7).expect("a part").clause_count() as u64
-    };
+    // each turn adds the part and takes it off again
+    let plate = RefCell::new(plate);
+    let mut add = || plate.borrow_mut().add(7, small).map(|()| 1).expect("an empty place");
+    let mut remove = || plate.borrow_mut().remove(7).expect("a part").clause_count() as u64;
     let (mut bits, mut work) = (vec![0; 64 * 512], vec![0; raw::WORK]);
     let mut afresh = || {
         let all = others.iter().chain([small]);
         all.map(|part| raw::tile_flat(part.as_bytes(), grid(), &mut bits, &mut work).count).sum()
     };
-    let [changes, afresh] = in_turn(runs, [&mut change, &mut afresh]);
-    let ratio = changes.over(&afresh) / 2.0;
-    println!("| {tiles} | {:.3} | {:.3} | {ratio:.3} |", changes.least(), afresh.least());
+    let [added, removed, afresh] = in_turn(runs, [&mut add, &mut remove, &mut afresh]);
+    let [add, remove, all] = [&added, &removed, &afresh].map(|times| times.least());
+    let [plus, minus] = [&added, &removed].map(|times| times.over(&afresh));
+    println!("| {tiles} | {add:.3} | {remove:.3} | {all:.3} | {plus:.3} | {minus:.3} |");
 }
