@@ -20,9 +20,9 @@ use Rattle.table_rules.specs.Turns.{World, partDrawn, callsOf, isOwn, withoutOt
 use Rattle.table_rules.specs.Turns as R
 use Rattle.table_rules.proofs.TableLines.{begin-order, draw-order, off}
 use Rattle.table_rules.proofs.Part.{laid-at, bits-length}
-use Rattle.table_rules.proofs.Calls.{begin-done, begin-true, every-turn}
+use Rattle.table_rules.proofs.Calls.{true-ok, begin-done, begin-true, every-turn}
 use Rattle.table_rules.proofs.RunCounts.{begun-count}
-use Rattle.table_rules.proofs.Alone.{one-picture, one-answer, from-begun}
+use Rattle.table_rules.proofs.Alone.{run-ours, one-picture, one-answer, from-begun}
 use Rattle.picture.specs.Shapes.{gridIn}
 use Rattle.picture.specs.declared.grid.Grid.{Grid}
 use Rattle.rectangle.specs.Rectangles.{rectangleIn}
@@ -31,7 +31,7 @@ use Rattle.answers.specs.declared.Answer.{Answer}
 use Rattle.promises.specs.Tables.{tableGrid, BeginSays, DrawSays}
 use Rattle.promises.specs.TableRuns.{Asked, begins, draws, Says, worldAfter, Turn, Makes, afterTurn, Turns, lastOf}
 use Rattle.promises.specs.TableRuns.{answerIn, callIn, turnsIn, NewlyBegun, Drawn-in-turns}
-use Rattle.promises.specs.TableRuns.{Without-the-other, Alone-the-same, By-own-calls}
+use Rattle.promises.specs.TableRuns.{Without-the-other, Alone-the-same, Own-drawing-done, By-own-calls}
 
 -- The promises as the rules have them.
 as-begins : {s : List ℕ} {d : Grid} {b b′ : List ℕ} {r : Answer} → BeginSays s d b b′ r
@@ -227,15 +227,23 @@ alone-the-same s d w ts n m one u =
       same = without-the-other s d w w ts (l .turns) n m one n (l .made) u refl own;
     }
 
+-- Tape and grid of a table newly begun are accepted, and the table is theirs.
+module _ (s : List ℕ) (d : Grid) (w : World) (n : NewlyBegun s d w) where
+  begun-line : (i : ℕ) → getD (beginLines s (tableGrid d) (length (n .before))) i 0 ≡ 0
+  begun-line =
+      each-line (beginLines s (tableGrid d) (length (n .before))) (sym (n .says .answer .number) ∙ n .done)
+
+  ours : R.Truthful s (tableGrid d) (w .table)
+  ours =
+      begin-done s (gridIn d false) (n .before) (w .table) (answerIn (n .answer)) (as-begins (n .says)) (n .done)
+
 pub by-own-calls : By-own-calls
 by-own-calls s d w ts n m one u =
     let g = gridIn d false in
-    let f = as-begins (n .says) in
-    let line = each-line (beginLines s (tableGrid d) (length (n .before))) (sym (f .answer .number) ∙ n .done) in
-    let ours = begin-done s g (n .before) (w .table) (answerIn (n .answer)) f (n .done) in
+    let line = begun-line s d w n in
     record {
-      picture = one-picture s g (line 0) (line 1) (as-run w ts m) one ours u;
-      returns = one-answer s g (line 0) (line 1) (as-run w ts m) one ours u;
+      picture = one-picture s g (line 0) (line 1) (as-run w ts m) one (ours s d w n) u;
+      returns = one-answer s g (line 0) (line 1) (as-run w ts m) one (ours s d w n) u;
     }
 
 -- The order of lines, of the number that is returned. Beginning: 1 to 9, 10 and 11, 24 for the table's length.
@@ -294,6 +302,13 @@ draw-numbers {s} {d} {q} {b} {b′} {o} {o′} {w} f =
       work = λ a t c k n h. e ∙ l .work a t (sym p ∙ c) k (n ∙ z) h;
       done = λ a t c k n h. e ∙ l .done a t (sym p ∙ c) k (n ∙ z) h;
     }
+
+pub own-drawing-done : Own-drawing-done
+own-drawing-done s d w ts n m one u q l b o k r f inside size long =
+    let line = begun-line s d w n in
+    let table = run-ours s (gridIn d false) (line 0) (line 1) (as-run w ts m) one (ours s d w n) in
+    draw-numbers f .done (line 0) inside (plain-fault (gridIn d false) ∙ line 1)
+    (true-ok s (tableGrid d) (line 0) (lastOf w ts .table) table) size long
 
 -- A drawing that is refused leaves table, picture and work buffer as they came.
 pub draw-refused : {s : List ℕ} {d : Grid} {q : Rectangle} {b b′ o o′ w w′ : List ℕ} {r : Answer}

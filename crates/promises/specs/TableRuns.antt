@@ -1,17 +1,17 @@
 -- Runs of calls on one shared table, by the calls' own promises: any number of users, each with a picture of its own,
 -- turned-down calls among them.
 use mathlib.Core.Path.{_≡_}
-use mathlib.Core.Bool.{Bool, false}
+use mathlib.Core.Bool.{Bool, true, false}
 use mathlib.Core.List.{List, [], _∷_, map}
-use Prim.Native.Nat.{ℕ, _+_, _*_, _<_}
+use Prim.Native.Nat.{ℕ, _+_, _*_, _<_, _≤_}
 use lib.Dec.{eqb}
 use lib.ListN.{length, getD}
 use Rattle.rules.specs.Values.{pick}
 use Rattle.rules.specs.Tapes.{readTape}
 use Rattle.rules.specs.Drawings as D
-use Rattle.rules.specs.Pictures.{picture}
+use Rattle.rules.specs.Pictures.{picture, pictureSize}
 use Rattle.order_rules.specs.Orders.{total}
-use Rattle.table_rules.specs.Tables.{tilesIn, byteIn}
+use Rattle.table_rules.specs.Tables.{rectangleOk, tilesIn, byteIn}
 use Rattle.table_rules.specs.Tables as T
 use Rattle.table_rules.specs.Turns.{World, turnOf, partDrawn, knownAfter, countIn, tilePart, OnePicture, callsOf}
 use Rattle.table_rules.specs.Turns.{withoutOthers, SameFor, pictureAlone, returnsAlone, ownReturns}
@@ -128,8 +128,18 @@ Alone-the-same =
     → NewlyBegun s d w → Turns w ts → OnePicture s (gridIn d false) (callsOf (turnsIn ts))
     → (u : ℕ) → Alone u w ts
 
+-- In such a run a drawing with the table's own tape and grid is never refused for the table: it is done where the
+-- rectangle has tiles and only those of the grid, the picture has its length, and the work buffer is long enough.
+abbrev pub Own-drawing-done : Type 0
+Own-drawing-done =
+    (s : List ℕ) (d : Grid) (w : World) (ts : List Turn)
+    → NewlyBegun s d w → Turns w ts → OnePicture s (gridIn d false) (callsOf (turnsIn ts))
+    → (u : ℕ) (q : Rectangle) (l b o k : List ℕ) (r : Answer) → Says (draws u s d q l) (lastOf w ts) b o k r
+    → rectangleOk (tableGrid d) (rectangleIn q) ≡ true
+    → length (lastOf w ts .pictures u) ≡ pictureSize false (gridIn d false) → D.workLimit ≤ length l → r .number ≡ 0
+
 -- By these calls alone: the picture, and number and place of each; no table and no answer is in it. A drawing with
--- another tape or grid than the table's returns 24, or an earlier line's number; one with the table's own never does.
+-- another tape or grid than the table's returns 24, or an earlier line's number.
 pub record ByOwnCalls (s : List ℕ) (d : Grid) (u : ℕ) (w : World) (ts : List Turn) : Type 0 where
   pub picture : lastOf w ts .pictures u
       ≡ pictureAlone s (gridIn d false) u (withoutOthers u (callsOf (turnsIn ts))) (w .pictures u)
