@@ -6,7 +6,7 @@ use Prim.Native.Nat.{ℕ, zero, suc, _+_, _*_, _/_, _%_, _<_, _≤_}
 use native.Mathlib.Nat.{div-add-mod', mod-lt, div-lt-iff-lt-mul, zero-add, mul-le-mul}
 use native.Mathlib.Decide.{decLt}
 use native.Mathlib.Omega.{arith}
-use lib.Dec.{leb, ltb}
+use lib.Dec.{leb}
 use lib.ListN.{length, getD, replicate}
 use lib.Seq.{ext-getD}
 use borrow.Author.Tests.{leb-true, ltb-true, le-leb, lt-ltb}
@@ -29,10 +29,9 @@ use Rattle.walk.specs.Walks.{Shown}
 use Rattle.walk.proofs.CellLaws.{ends}
 use Rattle.rectangle.specs.Rectangles.{rectangleIn}
 use Rattle.rectangle.specs.declared.Rectangle.{Rectangle}
-use Rattle.table_rules.specs.Tables.{tilesIn, entryIn, entryOk, entriesOk, from, byteIn, laid, turn}
+use Rattle.table_rules.specs.Tables.{entryIn, entryOk, entriesOk, from, byteIn, laid, turn}
 use Rattle.table_rules.proofs.Numbers.{in-tiles}
 use Rattle.table_rules.proofs.Part.{laid-at, laid-size}
-use Rattle.verdict_tiles.specs.Shares.{Passed}
 use Rattle.verdict_drawing.specs.Rects.{InGrid, TilesShared, TurnDrawn, LaidOver}
 
 -- From heights of 0.

@@ -1,6 +1,6 @@
 -- The words of the tape, with a table that passes: what they draw, the tape draws.
 use mathlib.Core.Path.{_≡_, sym, ap, subst, _∙_}
-use mathlib.Core.Bool.{false, true, _&&_}
+use mathlib.Core.Bool.{false, true}
 use mathlib.Core.List.{List}
 use Prim.Native.Nat.{ℕ, _<_}
 use native.Mathlib.Omega.{arith}
@@ -11,18 +11,15 @@ use Rattle.rules.specs.Tapes.{Tape, readTape, clauseLimit}
 use Rattle.rules.specs.Drawings as D
 use Rattle.rules.specs.Pictures.{picture, pictureSize}
 use Rattle.rules.proofs.Tests.{and-left, and-right}
-use Rattle.code.specs.Words.{tapeIn}
 use Rattle.code.specs.Unpacking.{Unpacked}
 use Rattle.picture.specs.Shapes.{gridIn}
 use Rattle.picture.specs.declared.grid.Grid.{Grid}
-use Rattle.walk.specs.Cells.{Ready}
-use Rattle.flat_tiles.specs.Rects.{Lent}
 use Rattle.answers.specs.Lines.{Draws}
 use Rattle.drawings.proofs.TapeWords.{words-few, words-accepted, words-tape, whole-level}
 use Rattle.rectangle.specs.Rectangles.{rectangleIn}
 use Rattle.rectangle.specs.declared.Rectangle as P
 use Rattle.table_rules.specs.Tables.{Rectangle, tileLimit, tableLength, headLength, tableHead, sameBytes, entryIn, entryOk}
-use Rattle.table_rules.specs.Tables.{entriesOk, tableOk, turn, laid}
+use Rattle.table_rules.specs.Tables.{tableOk, turn, laid}
 use Rattle.verdict_tiles.specs.Shares.{Passed}
 use Rattle.verdict_drawing.specs.Rects.{ForTurn, LaidOver}
 use Rattle.verdict_drawing.specs.Rectangles.{ForRectangle, RectangleDrawn}

@@ -2,18 +2,17 @@
 use mathlib.Core.Path.{_≡_, refl, sym, ap, ap₂, subst, _∙_}
 use mathlib.Core.Bool.{Bool, true, false}
 use mathlib.Core.List.{List, [], _∷_}
-use Prim.Native.Nat.{ℕ, _+_, _-_, _<_, _≤_}
+use Prim.Native.Nat.{ℕ, _+_, _-_, _≤_}
 use native.Mathlib.Omega.{arith}
 use lib.Dec.{eqb}
 use lib.ListN.{length, getD, take, drop, replicate, length-take}
 use borrow.Author.Tests.{eqb-true, eq-eqb, ne-eqb}
 use Rattle.rules.specs.Values.{pick, isNeg, Range, Box}
-use Rattle.rules.specs.Tapes.{rangeOver}
 use Rattle.rules.specs.Accepted.{Accepted}
 use Rattle.rules.specs.Marks.{markBytes, marksOver}
-use Rattle.rules.specs.Drawings.{Region, boxOf}
+use Rattle.rules.specs.Drawings.{boxOf}
 use Rattle.fixed.specs.Shapes.{rangeIn}
-use Rattle.code.specs.Words.{tapeIn, clausesIn}
+use Rattle.code.specs.Words.{tapeIn}
 use Rattle.code.proofs.WordTapes.{length-clauses}
 use Rattle.shortening.specs.Kept as K
 use Rattle.picture.specs.Shapes.{gridIn}

@@ -1,18 +1,17 @@
 -- A known tile: the words that its entry keeps, and what its verdict draws.
-use mathlib.Core.Path.{_≡_, refl, sym, ap, ap₂, subst, _∙_}
+use mathlib.Core.Path.{_≡_, sym, ap, subst, _∙_}
 use mathlib.Core.Bool.{Bool, true, false, _||_, not}
 use mathlib.Core.List.{List, [], _∷_}
-use Prim.Native.Nat.{ℕ, _+_, _-_, _*_, _/_, _%_, _<_, _≤_}
+use Prim.Native.Nat.{ℕ, _+_, _-_, _*_, _<_, _≤_}
 use native.Mathlib.Nat.{mul-le-mul-left}
 use native.Mathlib.Omega.{arith}
-use lib.Dec.{eqb, leb}
+use lib.Dec.{leb}
 use lib.ListN.{length, take, drop}
 use borrow.Author.Tests.{leb-true, eq-eqb}
-use Rattle.rules.specs.Values.{pick}
 use Rattle.rules.specs.Tapes.{Tape}
 use Rattle.rules.specs.Accepted.{Accepted}
 use Rattle.rules.specs.Marks.{keptBy, keptTape}
-use Rattle.rules.specs.Drawings.{Region, State, gridFault, children, fold, fillIn, visit}
+use Rattle.rules.specs.Drawings.{Region, gridFault, children, fold, fillIn, visit}
 use Rattle.rules.proofs.Tests.{and-left, and-right}
 use Rattle.code.specs.Words.{tapeIn, clausesIn}
 use Rattle.code.proofs.WordTapes.{length-clauses}
@@ -21,10 +20,10 @@ use Rattle.picture.specs.Parts.{Blank, Apart}
 use Rattle.picture.specs.Shapes.{gridIn}
 use Rattle.picture.specs.declared.grid.Grid.{Grid}
 use Rattle.picture.proofs.PartLaws.{apart-part}
-use Rattle.walk.specs.Cells.{CellOk, regionIn}
+use Rattle.walk.specs.Cells.{regionIn}
 use Rattle.walk.specs.Children.{childrenIn}
 use Rattle.walk.specs.Draws.{Draws, Fills}
-use Rattle.walk.specs.Walks.{Sound, Level, Shown, Folds}
+use Rattle.walk.specs.Walks.{Level, Shown, Folds}
 use Rattle.walk.specs.declared.cell.Cell.{Cell}
 use Rattle.walk.proofs.ChildLaws.{children-in}
 use Rattle.walk.proofs.Draws.{draws-none, draws-same}
@@ -35,7 +34,7 @@ use Rattle.plate_tiles.proofs.TileNumbers.{tile-side}
 use Rattle.table_rules.specs.Tables.{tileLimit, entryAt, tileOf, entryIn, verdictIn, marksFrom, marksIn, keptOk, entryOk, known}
 use Rattle.table_rules.proofs.Passed.{kept-accepted}
 use Rattle.verdict_entries.specs.Entries.{entryFrom, KeptFrom}
-use Rattle.verdict_tiles.specs.Shares.{Passed, Passes, TileBlank, TileApart, KnownDrawn}
+use Rattle.verdict_tiles.specs.Shares.{Passed, TileBlank, TileApart, KnownDrawn}
 
 -- What an entry that passes says.
 module _ {n : ℕ} {whole table : List ℕ} (p : Passed n whole table) {i : ℕ} (l : i < tileLimit) where

@@ -2,7 +2,7 @@
 use mathlib.Core.Path.{_≡_, refl, sym, ap, ap₂, subst, _∙_}
 use mathlib.Core.Bool.{Bool, true, false}
 use mathlib.Core.List.{List, [], _∷_}
-use Prim.Native.Nat.{ℕ, _+_, _*_, _<_, _≤_}
+use Prim.Native.Nat.{ℕ, _+_, _<_, _≤_}
 use native.Mathlib.Omega.{arith}
 use lib.Dec.{eqb}
 use lib.ListN.{length}
@@ -10,7 +10,7 @@ use borrow.Author.Tests.{eqb-true, eqb-false}
 use Rattle.rules.specs.Values.{pick}
 use Rattle.rules.specs.Tapes.{Tape}
 use Rattle.rules.specs.Accepted.{Accepted}
-use Rattle.rules.specs.Drawings.{Grid, Region, State, state, hidden, counted, visit, flatBound}
+use Rattle.rules.specs.Drawings.{Grid, State, state, hidden, counted, visit}
 use Rattle.code.specs.Words.{tapeIn}
 use Rattle.code.proofs.WordTapes.{length-clauses}
 use Rattle.picture.specs.Shapes.{gridIn}
@@ -23,7 +23,7 @@ use Rattle.table_rules.proofs.Entries.{put-size, put-same, put-other}
 use Rattle.table_rules.proofs.KeptMarks.{entry-of-size, entry-of-known, entry-of-draws, entry-of-ok}
 use Rattle.table_rules.proofs.Verdicts.{visit-known, more}
 use Rattle.verdict_entries.specs.Entries.{metTable, Met}
-use Rattle.verdict_tiles.specs.Shares.{Passed, Passes, Shares, KnownDrawn, TileShared}
+use Rattle.verdict_tiles.specs.Shares.{Passed, Passes, KnownDrawn, TileShared}
 
 more-none : (s : State) → more 0 s ≡ s
 more-none s = ap (state (s .heights)) (zero-more (s .clauses))

@@ -8,7 +8,6 @@ use verdict_entries::entry::entry_at;
 use verdict_entries::judged::meet;
 use verdict_entries::kept::kept_words;
 ghost use mathlib.Core.Path.{_≡_};
-ghost use mathlib.Core.Bool.{false};
 ghost use lib.ListN.{length};
 ghost use Rattle.rules.specs.Tapes.{slotLimit};
 ghost use Rattle.verdict_tiles.specs.Shares.{ForKnown, ForShared, KnownDrawn, TileShared, TileApart};

@@ -1,5 +1,5 @@
 -- The front of the room.
-use mathlib.Core.Path.{_≡_, sym}
+use mathlib.Core.Path.{sym}
 use native.Mathlib.Omega.{arith}
 use lib.Seq.{length-take-le}
 use Rattle.verdict_drawing.proofs.Laying.{picture-most}

@@ -1,5 +1,5 @@
 -- Drawn apart, and laid.
-use mathlib.Core.Path.{_≡_, refl, _∙_}
+use mathlib.Core.Path.{refl, _∙_}
 use Rattle.flat_tiles.proofs.WalkLaws.{lent-again}
 use Rattle.verdict_drawing.proofs.Laying.{laid-over}
 use borrow.Author.Needs.{needs}

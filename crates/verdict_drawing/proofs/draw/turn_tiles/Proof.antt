@@ -1,6 +1,6 @@
 -- From a cleared picture.
-use mathlib.Core.Path.{_≡_, refl, ap, _∙_}
-use lib.ListN.{length, replicate}
+use mathlib.Core.Path.{refl, ap, _∙_}
+use lib.ListN.{replicate}
 use Rattle.flat_tiles.proofs.WalkLaws.{lent-again}
 use Rattle.verdict_drawing.proofs.Laying.{turn-drawn}
 use borrow.Author.Needs.{needs}

@@ -1,5 +1,4 @@
 -- The room of all marks, or none.
-use mathlib.Core.Path.{_≡_, _∙_}
 use borrow.Author.Needs.{needs}
 use borrow.Author.Tests.{eq-eqb, ne-eqb}
 use Rattle.verdict_entries.proofs.judged.kept_room.Statement.{statement}

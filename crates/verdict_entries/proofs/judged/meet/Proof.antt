@@ -1,5 +1,5 @@
 -- Known, or written.
-use mathlib.Core.Path.{_≡_, sym, _∙_}
+use mathlib.Core.Path.{sym, _∙_}
 use native.Mathlib.Omega.{arith}
 use Rattle.plate_tiles.proofs.TileNumbers.{few-tiles}
 use Rattle.verdict_entries.proofs.Judging.{met-known, met-unknown, verdict-at}

@@ -1,5 +1,5 @@
 -- Met, and then known.
-use mathlib.Core.Path.{_≡_, refl}
+use mathlib.Core.Path.{refl}
 use Prim.Native.Nat.{_<_}
 use native.Mathlib.Omega.{arith}
 use Rattle.flat_tiles.proofs.WalkLaws.{lent-again}
