@@ -1,5 +1,4 @@
 -- By the verdict.
-use mathlib.Core.Path.{sym, ap, _∙_}
 use native.Mathlib.Omega.{arith}
 use Rattle.rules.proofs.Reading.{tape-accepted}
 use Rattle.verdicts.proofs.EntryLaws.{entry-above, entry-below, entry-kept}
