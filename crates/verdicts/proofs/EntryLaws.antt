@@ -64,8 +64,7 @@ module _ (t : Tape) (b : List ℕ) where
 
 -- The bytes of an entry.
 pub entry-part : (i : ℕ) (b : List ℕ)
-    → take (headLength + entryLength * i + entryLength - (headLength + entryLength * i)) (drop (headLength + entryLength * i) b)
-    ≡ entryIn i b
+    → (let a = headLength + entryLength * i in take (a + entryLength - a) (drop a b) ≡ entryIn i b)
 unfolding entryIn
 entry-part i b =
     let e : headLength + entryLength * i + entryLength - (headLength + entryLength * i) ≡ entryLength = omega arith in

@@ -1,6 +1,6 @@
 -- The table's head as it is written, and two lists of bytes compared.
 use mathlib.Core.Path.{_≡_, refl, sym, ap, ap₂, _∙_}
-use mathlib.Core.Bool.{true, false, _&&_}
+use mathlib.Core.Bool.{Bool, true, false, _&&_}
 use mathlib.Core.List.{List, [], _∷_, _++_, append-nil, append-assoc}
 use lib.IntN.{ℤ, pos}
 use Prim.Native.Nat.{ℕ, suc, _+_, _-_, _*_, _/_, _%_, _<_, _≤_}
@@ -8,7 +8,7 @@ use native.Mathlib.Omega.{arith}
 use native.Mathlib.Numerals.{add-one}
 use lib.Dec.{eqb}
 use lib.ListN.{length, getD, take, drop, replicate, length-append, length-replicate, length-drop, replicate-append-replicate}
-use lib.Seq.{sets, sets-eq, drop-cons, drop-length, take-all, take-at, drop-at, length-take-le}
+use lib.Seq.{sets, sets-eq, drop-cons, drop-length, take-all, take-at, drop-at, length-take-le, getD-take}
 use borrow.Author.Tests.{eq-eqb, ne-eqb}
 use Rattle.rules.specs.Tapes.{two, four}
 use Rattle.rules.specs.Drawings.{Grid}
@@ -119,30 +119,43 @@ begun-written s h t z g k n l lt eh ez ek en =
     en ∙ ap (λ x. length (take k x)) (drop-at h d headLength lh) ∙ length-take-le k d (omega arith) ∙ kd ∙ ld in
     over-end h d z headLength k lh ek ∙ ap₂ (λ u v. u ++ v) eh (ez ∙ zeros-are n ∙ ap zeros m)
 
--- Bytes from the i-th on.
-pub record SameSo (a b : List ℕ) (i : ℕ) : Type 0 where
-  pub rest : sameBytes a b ≡ sameBytes (drop i a) (drop i b)
+-- The first n bytes of two lists, from the i-th on.
+pub record SameSo (n : ℕ) (a b : List ℕ) (i : ℕ) : Type 0 where
+  pub rest : sameBytes (take n a) (take n b) ≡ sameBytes (drop i (take n a)) (drop i (take n b))
 
-module _ (a b : List ℕ) (i : ℕ) (n : length a ≡ length b) (z : SameSo a b i) where
-  here : i < length a
-      → sameBytes a b ≡ (eqb (getD a i 0) (getD b i 0) && sameBytes (drop (suc i) a) (drop (suc i) b))
+module _ (n : ℕ) (a b : List ℕ) (i : ℕ) (la : n ≤ length a) (lb : n ≤ length b) (z : SameSo n a b i) where
+  abbrev after : Bool → Bool
+  after v = v && sameBytes (drop (suc i) (take n a)) (drop (suc i) (take n b))
+
+  first : (l : List ℕ) → n ≤ length l → i < n → drop i (take n l) ≡ getD l i 0 ∷ drop (suc i) (take n l)
+  first l h k =
+      drop-cons (take n l) i 0 (omega (arith, length-take-le n l h))
+      ∙ ap (λ x. x ∷ drop (suc i) (take n l)) (getD-take n l i 0 k)
+
+  here : i < n → sameBytes (take n a) (take n b) ≡ after (eqb (getD a i 0) (getD b i 0))
   unfolding sameBytes
-  here l = z .rest ∙ ap₂ sameBytes (drop-cons a i 0 l) (drop-cons b i 0 (omega arith))
+  here l = z .rest ∙ ap₂ sameBytes (first a la l) (first b lb l)
 
-  pub same-not : i < length a → (getD a i 0 ≡ getD b i 0 → ⊥) → false ≡ sameBytes a b
-  same-not l d =
-      sym (here l ∙ ap (λ v. v && sameBytes (drop (suc i) a) (drop (suc i) b)) (ne-eqb (getD a i 0) (getD b i 0) d))
+  pub same-not : i < n → (getD a i 0 ≡ getD b i 0 → ⊥) → false ≡ sameBytes (take n a) (take n b)
+  same-not l d = sym (here l ∙ ap after (ne-eqb (getD a i 0) (getD b i 0) d))
 
-  pub same-next : i < length a → getD a i 0 ≡ getD b i 0 → SameSo a b (i + 1)
+  pub same-next : i < n → getD a i 0 ≡ getD b i 0 → SameSo n a b (i + 1)
   same-next l e =
       record {
-        rest = here l
-            ∙ ap (λ v. v && sameBytes (drop (suc i) a) (drop (suc i) b)) (eq-eqb (getD a i 0) (getD b i 0) e)
-            ∙ ap (λ j. sameBytes (drop j a) (drop j b)) (sym (add-one i));
+        rest = here l ∙ ap after (eq-eqb (getD a i 0) (getD b i 0) e)
+            ∙ ap (λ j. sameBytes (drop j (take n a)) (drop j (take n b))) (sym (add-one i));
       }
 
-  pub same-all : i ≡ length a → true ≡ sameBytes a b
+  none : (l : List ℕ) → n ≤ length l → i ≡ n → drop i (take n l) ≡ []
+  none l h e = ap (λ j. drop j (take n l)) (e ∙ sym (length-take-le n l h)) ∙ drop-length (take n l)
+
+  pub same-all : i ≡ n → true ≡ sameBytes (take n a) (take n b)
   unfolding sameBytes
-  same-all e =
-      sym (z .rest
-      ∙ ap₂ sameBytes (ap (λ j. drop j a) e ∙ drop-length a) (ap (λ j. drop j b) (e ∙ n) ∙ drop-length b))
+  same-all e = sym (z .rest ∙ ap₂ sameBytes (none a la e) (none b lb e))
+
+-- The head as it is compared: all of it.
+pub same-whole : (s h b : List ℕ) (g : Grid) → length s ≤ tapeRoom → h ≡ tableHead s g
+    → sameBytes (take headLength b) (take headLength h) ≡ sameBytes (take headLength b) (tableHead s g)
+same-whole s h b g l e =
+    ap (sameBytes (take headLength b))
+    (ap (take headLength) e ∙ take-all headLength (tableHead s g) (omega (arith, head-size s g l)))

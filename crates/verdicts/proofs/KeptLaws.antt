@@ -14,11 +14,13 @@ use mir.Val.{SFits, ofZ}
 use borrow.Author.Tests.{eq-eqb, ne-eqb, eqb-true, le-leb}
 use Rattle.rules.specs.Values.{pick, Clause}
 use Rattle.rules.specs.Tapes.{Raw, slotLimit, clauseLimit, nat, word, clauseOf, markOk, rawIn, rawsFrom}
-use Rattle.rules.specs.Tapes.{countsOk, clauseFault, faultFrom, readClauses, readTape, readList, listOf, rawsOf, copyOf, good, bad}
+use Rattle.rules.specs.Tapes.{countsOk, clauseFault, faultFrom, readClauses, readTape, readList, listOf, rawsOf}
+use Rattle.rules.specs.Tapes.{copyOf, good, bad}
 use Rattle.rules.specs.Marks.{asMarked, keptBy}
 use Rattle.rules.proofs.Reading.{rawOf, fault-here, fault-after, counts-hold, counts-ok}
 use Rattle.rules.proofs.Reading.{list-of-tape, tape-accepted, tape-tape}
 use Rattle.rules.proofs.Bytes.{length-read}
+use Rattle.tape.proofs.FieldValues.{raw}
 use Rattle.table_rules.specs.Tables.{marksFrom, marksIn, isChoice, copiesOk, keptOk}
 use Rattle.table_rules.proofs.Passed.{kept-length}
 use Rattle.verdicts.specs.Kept.{copyRaw, markedRaw, stands}
@@ -47,8 +49,10 @@ same-raw : (s : List ℕ) → rawOf (clauseOf (rawIn s)) ≡ rawIn s
 unfolding rawIn
 same-raw s = go (markOk s)
   where
-    go : (b : Bool) → rawOf (clauseOf (record { opcode = pick b (pos (getD s 2 0)) (pos 255); out = pos (getD s 3 0); left = pos (getD s 4 0); right = pos (getD s 5 0); constant = rawIn s .constant }))
-        ≡ record { opcode = pick b (pos (getD s 2 0)) (pos 255); out = pos (getD s 3 0); left = pos (getD s 4 0); right = pos (getD s 5 0); constant = rawIn s .constant }
+    go : (b : Bool)
+        → (let r : Raw = raw (pick b (pos (getD s 2 0)) (pos 255)) (pos (getD s 3 0)) (pos (getD s 4 0))
+        (pos (getD s 5 0)) (rawIn s .constant) in
+        rawOf (clauseOf r) ≡ r)
     go true = refl
     go false = refl
 

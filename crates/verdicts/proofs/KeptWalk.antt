@@ -7,7 +7,7 @@ use lib.IntN.{natAbs}
 use Prim.Native.Nat.{ℕ, zero, suc, _+_, _-_, _*_, _<_, _≤_}
 use native.Mathlib.Omega.{arith}
 use native.Mathlib.Numerals.{add-one}
-use lib.Dec.{T, eqb, leb}
+use lib.Dec.{T, leb}
 use lib.Signed.{nonNeg}
 use lib.ListN.{length, getD, drop}
 use mir.Syntax.{w32}
