@@ -1,12 +1,12 @@
 -- One entry by its verdict, the entries in their order, and the whole table.
 use mathlib.Core.Path.{_≡_, refl, sym, ap, ap₂, _∙_}
 use mathlib.Core.Bool.{Bool, true, false, _&&_, _||_, not}
-use mathlib.Core.List.{List, _∷_}
+use mathlib.Core.List.{List}
 use Prim.Native.Nat.{ℕ, zero, suc, _+_, _-_, _*_, _<_, _≤_}
 use native.Mathlib.Omega.{arith}
 use native.Mathlib.Decide.{decLt}
 use native.Mathlib.Numerals.{add-one}
-use lib.Dec.{eqb, leb}
+use lib.Dec.{eqb}
 use lib.ListN.{length, take, drop}
 use borrow.Author.Tests.{eq-eqb, ne-eqb, le-leb, lt-leb}
 use Rattle.rules.specs.Tapes.{Tape, readTape}
@@ -64,8 +64,7 @@ module _ (t : Tape) (b : List ℕ) where
 
 -- The bytes of an entry.
 pub entry-part : (i : ℕ) (b : List ℕ)
-    → take (headLength + entryLength * i + entryLength - (headLength + entryLength * i)) (drop (headLength + entryLength * i) b)
-    ≡ entryIn i b
+    → (let a = headLength + entryLength * i in take (a + entryLength - a) (drop a b) ≡ entryIn i b)
 unfolding entryIn
 entry-part i b =
     let e : headLength + entryLength * i + entryLength - (headLength + entryLength * i) ≡ entryLength = omega arith in

@@ -8,7 +8,7 @@ use native.Mathlib.Omega.{arith}
 use native.Mathlib.Numerals.{add-one}
 use lib.Dec.{eqb}
 use lib.ListN.{length, getD, take, drop, replicate, length-append, length-replicate, length-drop, replicate-append-replicate}
-use lib.Seq.{sets, sets-eq, drop-cons, drop-length, take-all, take-at, drop-at, length-take-le}
+use lib.Seq.{sets, sets-eq, drop-cons, drop-length, take-all, take-at, drop-at, length-take-le, getD-take}
 use borrow.Author.Tests.{eq-eqb, ne-eqb}
 use Rattle.rules.specs.Tapes.{two, four}
 use Rattle.rules.specs.Drawings.{Grid}
@@ -62,7 +62,15 @@ record-stored g l o₁ o₂ o₃ x y z a b n ex ey ez ea eb p q r =
     ∙ over-all l (vs ++ (us ++ ws)) (sym n)
     ∙ cc (ex, ey, ez, ea, eb, record-bytes g)
 
--- The head: all clear, the tape in front, and the record behind byte 65,536. Here a room is r long in n bytes.
+-- Bytes o written over all that stands behind p.
+over-end : (p q o : List ℕ) (a k : ℕ) → length p ≡ a → k ≡ length (p ++ q) - a
+    → take a (p ++ q) ++ (o ++ drop k (drop a (p ++ q))) ≡ p ++ o
+over-end p q o a k l e =
+    let m : k ≡ length q = omega (arith, length-append p q) in
+    ap₂ (λ u v. u ++ (o ++ drop k v)) (take-at p q a l) (drop-at p q a l)
+    ∙ ap (λ r. p ++ (o ++ r)) (ap (λ j. drop j q) m ∙ drop-length q) ∙ ap (λ r. p ++ r) (append-nil o)
+
+-- The head: all clear, the tape in front, and the record over the last bytes. Here a room is r long in n bytes.
 zeros-behind : (s : List ℕ) (n r k : ℕ) → length s ≤ r → n ≡ r + k
     → take (length s) s ++ drop (length s) (replicate n 0) ≡ (s ++ zeros (r - length s)) ++ replicate k 0
 unfolding zeros
@@ -76,33 +84,20 @@ zeros-behind s n r k h e =
     ∙ sym (replicate-append-replicate (r - a) k 0))
     ∙ sym (append-assoc s (replicate (r - a) 0) (replicate k 0))
 
+room-size : (s : List ℕ) → length s ≤ tapeRoom → length (s ++ zeros (tapeRoom - length s)) ≡ tapeRoom
+room-size s h = omega (arith, length-append s (zeros (tapeRoom - length s)), zeros-size (tapeRoom - length s))
+
 pub head-written : (s b c o : List ℕ) (g : Grid) (n k : ℕ) → n ≡ headLength → length s ≤ tapeRoom
     → b ≡ replicate n 0 → c ≡ take (length s) s ++ drop (length s) b → k ≡ length c - tapeRoom
     → o ≡ gridBytes (flatGrid g) → take tapeRoom c ++ (o ++ drop k (drop tapeRoom c)) ≡ tableHead s g
-unfolding tableHead zeros
+unfolding tableHead
 head-written s b c o g n k en h eb ec ek eo =
-    let p = s ++ zeros (tapeRoom - length s) in
-    let lb : length b ≡ n = ap length eb ∙ length-replicate n 0 in
-    let lc : length c ≡ n = ap length ec
-    ∙ omega (
-      arith,
-      lb,
-      length-append (take (length s) s) (drop (length s) b),
-      length-take-le (length s) s (omega arith),
-      length-drop (length s) b,
-    ) in
-    let m : c ≡ p ++ replicate k 0 =
-    ec ∙ ap (λ x. take (length s) s ++ drop (length s) x) eb ∙ zeros-behind s n tapeRoom k h (omega arith) in
-    let l : length p ≡ tapeRoom = omega (
-      arith,
-      length-append s (zeros (tapeRoom - length s)),
-      zeros-size (tapeRoom - length s),
-    ) in
-    let z : drop {A = ℕ} k (replicate k 0) ≡ [] =
-    ap (λ j. drop {A = ℕ} j (replicate k 0)) (sym (length-replicate k 0)) ∙ drop-length (replicate k 0) in
+    let m = ec ∙ ap (λ x. take (length s) s ++ drop (length s) x) eb
+    ∙ zeros-behind s n tapeRoom (n - tapeRoom) h (omega arith) in
     ap (λ x. take tapeRoom x ++ (o ++ drop k (drop tapeRoom x))) m
-    ∙ ap₂ (λ u v. u ++ (o ++ drop k v)) (take-at p (replicate k 0) tapeRoom l) (drop-at p (replicate k 0) tapeRoom l)
-    ∙ ap₂ (λ u v. p ++ (u ++ v)) eo z ∙ ap (λ u. p ++ u) (append-nil (gridBytes (flatGrid g)))
+    ∙ over-end (s ++ zeros (tapeRoom - length s)) (replicate (n - tapeRoom) 0) o tapeRoom k (room-size s h)
+    (ek ∙ ap (λ x. length x - tapeRoom) m)
+    ∙ ap (λ u. (s ++ zeros (tapeRoom - length s)) ++ u) eo
     ∙ append-assoc s (zeros (tapeRoom - length s)) (gridBytes (flatGrid g))
 
 -- A table newly begun: the head, and zeros behind it.
@@ -120,38 +115,47 @@ begun-written s h t z g k n l lt eh ez ek en =
     let lh : length h ≡ headLength = ap length eh ∙ head-size s g l in
     let ld : length d ≡ tileLimit * entryLength = omega (arith, length-drop headLength t) in
     let kd : k ≡ length d = omega (arith, length-append h d) in
-    let e : drop headLength (h ++ d) ≡ d = drop-at h d headLength lh in
     let m : n ≡ tileLimit * entryLength =
-    en ∙ ap (λ x. length (take k x)) e ∙ ap (λ j. length (take j d)) kd ∙ ap length (take-all (length d) d (omega arith))
-    ∙ ld in
-    ap₂ (λ u v. u ++ (z ++ drop k v)) (take-at h d headLength lh) e
-    ∙ ap₂ (λ u v. u ++ v) eh
-    (ap (λ r. z ++ r) (ap (λ j. drop j d) kd ∙ drop-length d) ∙ append-nil z ∙ ez ∙ zeros-are n ∙ ap zeros m)
+    en ∙ ap (λ x. length (take k x)) (drop-at h d headLength lh) ∙ length-take-le k d (omega arith) ∙ kd ∙ ld in
+    over-end h d z headLength k lh ek ∙ ap₂ (λ u v. u ++ v) eh (ez ∙ zeros-are n ∙ ap zeros m)
 
--- Bytes from the i-th on.
-pub record SameSo (a b : List ℕ) (i : ℕ) : Type 0 where
-  pub rest : sameBytes a b ≡ sameBytes (drop i a) (drop i b)
+-- The first n bytes of two lists, from the i-th on.
+pub record SameSo (n : ℕ) (a b : List ℕ) (i : ℕ) : Type 0 where
+  pub rest : sameBytes (take n a) (take n b) ≡ sameBytes (drop i (take n a)) (drop i (take n b))
 
-module _ (a b : List ℕ) (i : ℕ) (n : length a ≡ length b) (z : SameSo a b i) where
-  here : i < length a
-      → sameBytes a b ≡ (eqb (getD a i 0) (getD b i 0) && sameBytes (drop (suc i) a) (drop (suc i) b))
+module _ (n : ℕ) (a b : List ℕ) (i : ℕ) (la : n ≤ length a) (lb : n ≤ length b) (z : SameSo n a b i) where
+  abbrev after : Bool → Bool
+  after v = v && sameBytes (drop (suc i) (take n a)) (drop (suc i) (take n b))
+
+  first : (l : List ℕ) → n ≤ length l → i < n → drop i (take n l) ≡ getD l i 0 ∷ drop (suc i) (take n l)
+  first l h k =
+      drop-cons (take n l) i 0 (omega (arith, length-take-le n l h))
+      ∙ ap (λ x. x ∷ drop (suc i) (take n l)) (getD-take n l i 0 k)
+
+  here : i < n → sameBytes (take n a) (take n b) ≡ after (eqb (getD a i 0) (getD b i 0))
   unfolding sameBytes
-  here l = z .rest ∙ ap₂ sameBytes (drop-cons a i 0 l) (drop-cons b i 0 (omega arith))
+  here l = z .rest ∙ ap₂ sameBytes (first a la l) (first b lb l)
 
-  pub same-not : i < length a → (getD a i 0 ≡ getD b i 0 → ⊥) → false ≡ sameBytes a b
-  same-not l d =
-      sym (here l ∙ ap (λ v. v && sameBytes (drop (suc i) a) (drop (suc i) b)) (ne-eqb (getD a i 0) (getD b i 0) d))
+  pub same-not : i < n → (getD a i 0 ≡ getD b i 0 → ⊥) → false ≡ sameBytes (take n a) (take n b)
+  same-not l d = sym (here l ∙ ap after (ne-eqb (getD a i 0) (getD b i 0) d))
 
-  pub same-next : i < length a → getD a i 0 ≡ getD b i 0 → SameSo a b (i + 1)
+  pub same-next : i < n → getD a i 0 ≡ getD b i 0 → SameSo n a b (i + 1)
   same-next l e =
       record {
-        rest = here l
-            ∙ ap (λ v. v && sameBytes (drop (suc i) a) (drop (suc i) b)) (eq-eqb (getD a i 0) (getD b i 0) e)
-            ∙ ap (λ j. sameBytes (drop j a) (drop j b)) (sym (add-one i));
+        rest = here l ∙ ap after (eq-eqb (getD a i 0) (getD b i 0) e)
+            ∙ ap (λ j. sameBytes (drop j (take n a)) (drop j (take n b))) (sym (add-one i));
       }
 
-  pub same-all : i ≡ length a → true ≡ sameBytes a b
+  none : (l : List ℕ) → n ≤ length l → i ≡ n → drop i (take n l) ≡ []
+  none l h e = ap (λ j. drop j (take n l)) (e ∙ sym (length-take-le n l h)) ∙ drop-length (take n l)
+
+  pub same-all : i ≡ n → true ≡ sameBytes (take n a) (take n b)
   unfolding sameBytes
-  same-all e =
-      sym (z .rest
-      ∙ ap₂ sameBytes (ap (λ j. drop j a) e ∙ drop-length a) (ap (λ j. drop j b) (e ∙ n) ∙ drop-length b))
+  same-all e = sym (z .rest ∙ ap₂ sameBytes (none a la e) (none b lb e))
+
+-- The head as it is compared: all of it.
+pub same-whole : (s h b : List ℕ) (g : Grid) → length s ≤ tapeRoom → h ≡ tableHead s g
+    → sameBytes (take headLength b) (take headLength h) ≡ sameBytes (take headLength b) (tableHead s g)
+same-whole s h b g l e =
+    ap (sameBytes (take headLength b))
+    (ap (take headLength) e ∙ take-all headLength (tableHead s g) (omega (arith, head-size s g l)))

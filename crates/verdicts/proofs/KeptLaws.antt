@@ -3,32 +3,27 @@
 use mathlib.Core.Path.{_≡_, refl, sym, ap, ap₂, _∙_}
 use mathlib.Core.Bool.{Bool, true, false, _&&_, _||_, not}
 use mathlib.Core.List.{List, [], _∷_, map}
-use lib.IntN.{ℤ, pos, negsuc, natAbs}
-use Prim.Native.Nat.{ℕ, zero, suc, _+_, _-_, _*_, _%_, _<_, _≤_}
+use lib.IntN.{ℤ, pos, negsuc}
+use Prim.Native.Nat.{ℕ, zero, suc, _-_, _<_, _≤_}
 use native.Mathlib.Omega.{arith}
-use native.Mathlib.Numerals.{add-one}
-use lib.Dec.{T, eqb, leb}
-use lib.Signed.{nonNeg, mag}
-use lib.ListN.{length, getD, drop, length-map}
+use lib.Dec.{eqb, leb}
+use lib.Signed.{mag}
+use lib.ListN.{length, getD, drop}
 use mir.Syntax.{w32}
-use mir.Val.{SFits, Fits, ofZ}
+use mir.Val.{SFits, ofZ}
 use borrow.Author.Tests.{eq-eqb, ne-eqb, eqb-true, le-leb}
 use Rattle.rules.specs.Values.{pick, Clause}
-use Rattle.rules.specs.Tapes.{Raw, Tape, slotLimit, clauseLimit, nat, isSlot, word, clauseOf, markOk, rawIn, rawsFrom}
-use Rattle.rules.specs.Tapes.{countsOk, clauseFault, faultFrom, readClauses, readTape, readList, listOf, rawsOf, copyOf, good, bad}
-use Rattle.rules.specs.Accepted.{Accepted}
-use Rattle.rules.specs.Marks.{asMarked, keptBy, keptTape}
-use Rattle.rules.proofs.Tests.{and-left, and-right}
-use Rattle.rules.proofs.Reading.{rawOf, passed, passed-tests, fault-here, fault-after, counts-hold, counts-ok}
+use Rattle.rules.specs.Tapes.{Raw, slotLimit, clauseLimit, nat, word, clauseOf, markOk, rawIn, rawsFrom}
+use Rattle.rules.specs.Tapes.{countsOk, clauseFault, faultFrom, readClauses, readTape, readList, listOf, rawsOf}
+use Rattle.rules.specs.Tapes.{copyOf, good, bad}
+use Rattle.rules.specs.Marks.{asMarked, keptBy}
+use Rattle.rules.proofs.Reading.{rawOf, fault-here, fault-after, counts-hold, counts-ok}
 use Rattle.rules.proofs.Reading.{list-of-tape, tape-accepted, tape-tape}
 use Rattle.rules.proofs.Bytes.{length-read}
-use Rattle.slotset.specs.SlotSets.{IsSet}
-use Rattle.slotset.specs.declared.SlotSet.{SlotSet}
-use Rattle.tape.proofs.ByteClauses.{left-from, raws-first, raws-here, raws-over}
-use Rattle.tape.proofs.FieldValues.{kept, small, slot-cast, slot-below, slot-nat, wider}
-use Rattle.table_rules.specs.Tables.{entryLength, markIn, marksFrom, marksIn, isChoice, copiesOk, keptOk}
+use Rattle.tape.proofs.FieldValues.{raw}
+use Rattle.table_rules.specs.Tables.{marksFrom, marksIn, isChoice, copiesOk, keptOk}
 use Rattle.table_rules.proofs.Passed.{kept-length}
-use Rattle.verdicts.specs.Kept.{copyRaw, markedRaw, stands, ForEntry}
+use Rattle.verdicts.specs.Kept.{copyRaw, markedRaw, stands}
 
 -- A clause's opcode, as the code compares it.
 is-opcode : (k : ℕ) (z : ℤ) → k < 100 → mag z < 2147483648 → eqb (ofZ w32 z) (suc k) ≡ eqb (nat z) (suc k)
@@ -54,8 +49,10 @@ same-raw : (s : List ℕ) → rawOf (clauseOf (rawIn s)) ≡ rawIn s
 unfolding rawIn
 same-raw s = go (markOk s)
   where
-    go : (b : Bool) → rawOf (clauseOf (record { opcode = pick b (pos (getD s 2 0)) (pos 255); out = pos (getD s 3 0); left = pos (getD s 4 0); right = pos (getD s 5 0); constant = rawIn s .constant }))
-        ≡ record { opcode = pick b (pos (getD s 2 0)) (pos 255); out = pos (getD s 3 0); left = pos (getD s 4 0); right = pos (getD s 5 0); constant = rawIn s .constant }
+    go : (b : Bool)
+        → (let r : Raw = raw (pick b (pos (getD s 2 0)) (pos 255)) (pos (getD s 3 0)) (pos (getD s 4 0))
+        (pos (getD s 5 0)) (rawIn s .constant) in
+        rawOf (clauseOf r) ≡ r)
     go true = refl
     go false = refl
 

@@ -7,13 +7,13 @@ use lib.IntN.{natAbs}
 use Prim.Native.Nat.{ℕ, zero, suc, _+_, _-_, _*_, _<_, _≤_}
 use native.Mathlib.Omega.{arith}
 use native.Mathlib.Numerals.{add-one}
-use lib.Dec.{T, eqb, leb}
+use lib.Dec.{T, leb}
 use lib.Signed.{nonNeg}
 use lib.ListN.{length, getD, drop}
 use mir.Syntax.{w32}
 use mir.Val.{Fits}
 use borrow.Author.Tests.{eqb-true}
-use Rattle.rules.specs.Tapes.{Raw, slotLimit, clauseLimit, nat, isSlot, word, rawIn, rawsFrom, clauseFault, readTape}
+use Rattle.rules.specs.Tapes.{slotLimit, clauseLimit, nat, isSlot, word, rawIn, rawsFrom, clauseFault, readTape}
 use Rattle.rules.proofs.Tests.{and-right}
 use Rattle.rules.proofs.Reading.{passed, passed-tests, counts-hold, tape-accepted}
 use Rattle.slotset.specs.SlotSets.{IsSet}

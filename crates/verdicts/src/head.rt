@@ -57,12 +57,14 @@ pub fn write_head(out: &mut [u8], tape: &[u8], grid: Grid)
     put_grid(&mut out[TAPE_ROOM..], grid)
 }
 
-fn same_bytes(a: &[u8], b: &[u8]) -> bool
-    requires { ⌜ length (now a) ≡ length (now b) ⌝ }
-    ensures { λ r. ⌜ r ≡ sameBytes (now (a .entry)) (now (b .entry)) ⌝ }
+// The first `count` bytes of both.
+fn same_front(a: &[u8], b: &[u8], count: usize) -> bool
+    requires { ⌜ count ≤ length (now a) ⌝ }
+    requires { ⌜ count ≤ length (now b) ⌝ }
+    ensures { λ r. ⌜ r ≡ sameBytes (take count (now (a .entry))) (take count (now (b .entry))) ⌝ }
 {
     let mut i = 0;
-    while i < a.len() {
+    while i < count {
         if a[i] != b[i] {
             return false;
         }
@@ -81,5 +83,5 @@ pub fn same_head(tape: &[u8], grid: Grid, table: &[u8]) -> bool
 {
     let mut head = [0u8; HEAD_LENGTH];
     write_head(&mut head, tape, grid);
-    same_bytes(&table[..HEAD_LENGTH], &head)
+    same_front(table, &head, HEAD_LENGTH)
 }

@@ -1,5 +1,5 @@
 -- By the mark.
-use mathlib.Core.Path.{_≡_, ap₂, _∙_}
+use mathlib.Core.Path.{ap₂, _∙_}
 use Rattle.tape.specs.Clauses.{rawOf}
 use Rattle.tape.proofs.FieldValues.{all-kept}
 use Rattle.verdicts.specs.Kept.{copyRaw}

@@ -40,28 +40,35 @@ part-entry-ok-end : tie.Need-part-entry-ok-end Inv-loop μ-loop
 part-entry-ok-end c = omega (arith, c .before .before .before .before .pre .1)
 
 -- The part of the table that is lent is the entry.
-part : (c : tie.After-entry-ok-arg Inv-loop μ-loop) → let l = c .before .before in
-    let i = l .loop .i in
+part : (c : tie.After-entry-ok-arg Inv-loop μ-loop)
+    → (let l = c .before .before in
+    let a = headLength + entryLength * l .loop .i in
     let b = l .before .before .before .args .table .now in
-    take (headLength + entryLength * i + entryLength - (headLength + entryLength * i)) (drop (headLength + entryLength * i) b)
-    ≡ entryIn i b
+    take (a + entryLength - a) (drop a b) ≡ entryIn (l .loop .i) b)
 part c = entry-part (c .before .before .loop .i) _
 
-found : (c : tie.After-entry-ok Inv-loop μ-loop) → let l = c .before .before .before in
-    let s = l .before .before .before in
-    c .entry-ok .result ≡ entryOk (readTape (s .args .tape .now) .tape) (entryIn (l .loop .i) (s .args .table .now))
+found : (c : tie.After-entry-ok Inv-loop μ-loop)
+    → (let l = c .before .before .before in
+    let a = l .before .before .before .args in
+    c .entry-ok .result ≡ entryOk (readTape (a .tape .now) .tape) (entryIn (l .loop .i) (a .table .now)))
 found c = c .entry-ok .ensures ∙ ap (entryOk _) (part (c .before))
 
 entry-ok-requires : tie.Need-entry-ok-requires Inv-loop μ-loop
 entry-ok-requires c κs =
-    let s = c .before .before .before .before .before in
-    (s .pre .0, ap length (part c) ∙ entry-size _ _ (c .before .loop-test .taken) (s .pre .1))
+    let t = c .before in
+    let l = t .before in
+    let s = l .before .before .before in (
+      s .pre .0,
+      ap length (part c)
+          ∙ entry-size (l .loop .i) (s .args .table .now) (omega (arith, t .loop-test .taken)) (s .pre .1),
+    )
 
 returns : tie.Need-returns Inv-loop μ-loop
 returns c =
     let d = c .before in
     let l = d .before .before .before in
-    entries-stop _ _ 64 (l .loop .i) (d .before .before .loop-test .taken) (refused _ (found d) (c .if1 .taken))
+    entries-stop _ _ 64 (l .loop .i) (omega (arith, d .before .before .loop-test .taken))
+    (refused _ (found d) (c .if1 .taken))
 
 add-i : tie.Need-add-i Inv-loop μ-loop
 add-i c = omega arith
@@ -72,8 +79,10 @@ loop-less c = omega arith
 loop-again : tie.Need-loop-again Inv-loop μ-loop
 loop-again c =
     let d = c .before in
-    let l = d .before .before .before in
-    (omega (arith, d .before .before .loop-test .taken), entries-next _ _ (l .loop .i) (l .loop .inv .1) (passed _ (found d) (c .if1 .left)))
+    let l = d .before .before .before in (
+      omega (arith, d .before .before .loop-test .taken),
+      entries-next _ _ (l .loop .i) (l .loop .inv .1) (passed _ (found d) (c .if1 .left)),
+    )
 
 returns-2 : tie.Need-returns-2 Inv-loop μ-loop
 returns-2 c =

@@ -1,6 +1,6 @@
 -- By the verdict.
-use mathlib.Core.Path.{sym, ap, _∙_}
 use native.Mathlib.Omega.{arith}
+use Rattle.rules.specs.Tapes.{readTape}
 use Rattle.rules.proofs.Reading.{tape-accepted}
 use Rattle.verdicts.proofs.EntryLaws.{entry-above, entry-below, entry-kept}
 use borrow.Author.Needs.{needs}
@@ -11,10 +11,15 @@ shared-slice-read-verdict : tie.Need-shared-slice-read-verdict
 shared-slice-read-verdict c = search needs
 
 returns : tie.Need-returns
-returns c = entry-above _ _ (c .if1 .taken)
+returns c =
+    let a = c .before .before .before .before .args in
+    entry-above (readTape (a .tape .now) .tape) (a .entry .now) (omega (arith, c .if1 .taken))
 
 returns-2 : tie.Need-returns-2
-returns-2 c = entry-below _ _ (c .before .if1 .left) (c .if2 .taken)
+returns-2 c =
+    let e = c .before in
+    let a = e .before .before .before .before .args in
+    entry-below (readTape (a .tape .now) .tape) (a .entry .now) (omega (arith, e .if1 .left)) (c .if2 .taken)
 
 byte-at-requires : tie.Need-byte-at-requires
 byte-at-requires c κs = omega (arith, tape-accepted _ (c .before .before .before .before .before .pre .0) .long)
