@@ -33,12 +33,13 @@
  *   11 a step below 1, or an origin, z or last sample outside -2,147,483,647 to 2,147,483,647
  *   12 picture or slope buffer not of the exact length; order list not of every tile one time
  *   13 work buffer below 32,768 bytes
- *   14 packing, unpacking, merging, text or file: output not of the exact length
+ *   14 packing, unpacking, merging, text or file: output not of the exact length; plate memory not of 524,288 bytes
  *   17 text: the rules of a formula broken
  *   18 text: a bracket, a function's too, that opens inside 32 others
  *   19 text: more than 1,024 clauses or 64 slots needed
  *   20 probe: a coordinate not a number, infinite, or above 32,767 in magnitude
  *   21 merging: a result of more than 6,144 clauses, the minimum counted, or of more than 128 slots
+ *   22 plate: a place above 7, taken on adding, or empty on removing
  *   23 reason: a pixel outside the grid
  *   25 path: empty, above 4,096 pairs, not in whole pairs, or a sample moved outside -2,147,483,647 to 2,147,483,647
  */
@@ -55,6 +56,8 @@ extern "C" {
 #define LAYERS_WORK 32768
 #define LAYERS_TEXT_TAPE 10248
 #define LAYERS_POSITIONS 4096
+#define LAYERS_PLACE 65536
+#define LAYERS_PLATE 524288
 
 typedef struct {
     uint8_t number;
@@ -184,6 +187,19 @@ LayersReason layers_explain_pixel(const uint8_t *tape, size_t tape_len, LayersGr
  */
 LayersAnswer layers_tile_swept(const uint8_t *tape, size_t tape_len, LayersGrid grid, const int32_t *path, size_t path_len,
                                uint16_t *picture, size_t picture_len, uint8_t *work, size_t work_len);
+
+/*
+ * Parts that come and go on a plate, and one flat picture on one grid, material where any part has it. memory has
+ * LAYERS_PLATE bytes: places 0 to 7 of LAYERS_PLACE each, all zero where empty, else beginning with an accepted tape; what
+ * is behind the tape is free. Begin with memory and picture all zero, and call with the same grid. Adding stores the tape
+ * and zeros behind it, removing zeros the place. The bytes of a 64-tile where the part's range is 0 or more are not
+ * touched; all others are drawn afresh from the parts present. The count is 0. 14 is checked first; then the lowest place
+ * that is neither empty nor a tape gives its tape's number and clause; then 22, on adding the tape, and 10 to 13.
+ */
+LayersAnswer layers_plate_add(uint8_t *memory, size_t memory_len, uint32_t place, const uint8_t *tape, size_t tape_len,
+                              LayersGrid grid, uint8_t *picture, size_t picture_len, uint8_t *work, size_t work_len);
+LayersAnswer layers_plate_remove(uint8_t *memory, size_t memory_len, uint32_t place, LayersGrid grid, uint8_t *picture,
+                                 size_t picture_len, uint8_t *work, size_t work_len);
 
 /* Netpbm files. */
 LayersAnswer layers_write_bitmap(uint32_t width, uint32_t height, const uint8_t *picture, size_t picture_len, uint8_t *out,

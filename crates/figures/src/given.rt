@@ -79,6 +79,13 @@ pub fn short_work() -> [u8; 32767]
     [255; 32767]
 }
 
+// The memory of an empty plate.
+pub fn plate() -> [u8; 524288]
+    ensures { λ r. ⌜ 524288 ≡ length r ⌝ }
+{
+    [0; 524288]
+}
+
 // 1,024 clauses as a list, each of which puts the constant 0 in slot 0, and room for them as a tape.
 pub fn list() -> [i32; 5120]
     ensures { λ r. ⌜ 5120 ≡ length r ⌝ }

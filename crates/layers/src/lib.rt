@@ -1,4 +1,5 @@
-// The public calls, each the call of its own crate. What they promise is in `crates/promises/specs/Says.antt`.
+// The public calls, each the call of its own crate. What they promise is in `crates/promises/specs/Says.antt`,
+// and for a plate in `Plates.antt` beside it.
 pub use answers::Answer;
 pub use answers::lines::WORK_LIMIT;
 use picture::grid::Grid;
@@ -9,6 +10,7 @@ pub use promises::Probed;
 pub use promises::Reason;
 pub use promises::Sided;
 ghost use mathlib.Core.Bool.{true, false};
+ghost use Rattle.promises.specs.Plates.{AddSays, RemoveSays};
 ghost use Rattle.promises.specs.Says.{PackSays, UnpackSays, FullSays, TilesSay, SlopesSay, BitmapSays, HeightsSay};
 ghost use Rattle.promises.specs.Says.{ProbeSays, SidedSays, MergeSays, TextAnswered, ReasonSays, OrderSays, SweptSays};
 
@@ -93,6 +95,33 @@ pub fn tile_swept(
         (now (work .entry)) (now (work .exit)) r ⌝ }
 {
     swept_drawing::tile_swept(tape, grid, path, picture, work)
+}
+
+pub fn plate_add(
+    memory: &mut [u8],
+    place: u32,
+    tape: &[u8],
+    grid: Grid,
+    picture: &mut [u8],
+    work: &mut [u8],
+) -> Answer
+    ensures { λ r. ⌜ AddSays place (now (tape .entry)) grid (now (memory .entry)) (now (memory .exit))
+        (now (picture .entry)) (now (picture .exit)) (now (work .entry)) (now (work .exit)) r ⌝ }
+{
+    plate::plate_add(memory, place, tape, grid, picture, work)
+}
+
+pub fn plate_remove(
+    memory: &mut [u8],
+    place: u32,
+    grid: Grid,
+    picture: &mut [u8],
+    work: &mut [u8],
+) -> Answer
+    ensures { λ r. ⌜ RemoveSays place grid (now (memory .entry)) (now (memory .exit)) (now (picture .entry))
+        (now (picture .exit)) (now (work .entry)) (now (work .exit)) r ⌝ }
+{
+    plate::plate_remove(memory, place, grid, picture, work)
 }
 
 pub fn merge_tapes(first: &[u8], second: &[u8], out: &mut [u8]) -> Answer

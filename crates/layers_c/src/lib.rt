@@ -7,6 +7,7 @@ use promises::Point;
 use promises::Reason;
 use promises::Sided;
 ghost use mathlib.Core.Bool.{true, false};
+ghost use Rattle.promises.specs.Plates.{AddSays, RemoveSays};
 ghost use Rattle.promises.specs.Says.{PackSays, UnpackSays, FullSays, TilesSay, BitmapSays, HeightsSay};
 ghost use Rattle.promises.specs.Says.{SidedSays, SlopesSay, MergeSays, TextAnswered, ReasonSays, OrderSays, SweptSays};
 
@@ -124,6 +125,35 @@ pub extern "C" fn layers_tile_swept(
         (now (work .entry)) (now (work .exit)) r ⌝ }
 {
     layers::tile_swept(tape, grid, path, picture, work)
+}
+
+#[no_mangle]
+pub extern "C" fn layers_plate_add(
+    memory: &mut [u8],
+    place: u32,
+    tape: &[u8],
+    grid: Grid,
+    picture: &mut [u8],
+    work: &mut [u8],
+) -> Answer
+    ensures { λ r. ⌜ AddSays place (now (tape .entry)) grid (now (memory .entry)) (now (memory .exit))
+        (now (picture .entry)) (now (picture .exit)) (now (work .entry)) (now (work .exit)) r ⌝ }
+{
+    layers::plate_add(memory, place, tape, grid, picture, work)
+}
+
+#[no_mangle]
+pub extern "C" fn layers_plate_remove(
+    memory: &mut [u8],
+    place: u32,
+    grid: Grid,
+    picture: &mut [u8],
+    work: &mut [u8],
+) -> Answer
+    ensures { λ r. ⌜ RemoveSays place grid (now (memory .entry)) (now (memory .exit)) (now (picture .entry))
+        (now (picture .exit)) (now (work .entry)) (now (work .exit)) r ⌝ }
+{
+    layers::plate_remove(memory, place, grid, picture, work)
 }
 
 #[no_mangle]

@@ -22,6 +22,8 @@ use Rattle.picture.proofs.BitShows.{zeros-at}
 use Rattle.picture.proofs.PictureSizes.{flat-size}
 use Rattle.answers.specs.Lines.{Draws}
 use Rattle.drawings.proofs.TapeWords.{words-accepted, words-tape}
+use Rattle.walk.specs.Cells.{sizeIn}
+use Rattle.walk.proofs.Places.{ready-again}
 use Rattle.plate_rules.specs.Plate.{places, placeSize, placesFrom, allZero, tapeIn, partIn, partsIn, greater, unionOf}
 use Rattle.plate_rules.specs.Plate.{touched}
 use Rattle.plate_rules.proofs.JoinedBytes.{or-bytes, drawn-flat, union-flat}
@@ -35,6 +37,24 @@ use Rattle.plate_tiles.specs.Tiles.{Sized, tileCount, tileNumbered, numberOf, M
 use Rattle.plate_tiles.specs.Joins.{withPart}
 use Rattle.plate_tiles.proofs.TileNumbers.{number-below}
 use Rattle.plate_drawing.specs.Afresh.{Show, Kept, Joins, addedHeights, Began, Buffers, ForPlace, ForPlaces}
+
+-- What was lent, lent again.
+pub buffers-again : {grid : Grid} {marks blank picture work words first second : List ℕ}
+    {marks′ blank′ picture′ work′ words′ first′ second′ : List ℕ}
+    → Buffers grid marks blank picture work words first second → length marks′ ≡ length marks
+    → blank′ ≡ replicate (sizeIn false grid) 0 → length picture′ ≡ length picture → length work′ ≡ length work
+    → length words′ ≡ length words → length first′ ≡ length first → length second′ ≡ length second
+    → Buffers grid marks′ blank′ picture′ work′ words′ first′ second′
+buffers-again u m clean e f g h k =
+    record {
+      ready = ready-again (u .ready) e;
+      size = m ∙ u .size;
+      clean = clean;
+      room = omega (arith, u .room, f);
+      words-in = g ∙ u .words-in;
+      first-in = h ∙ u .first-in;
+      second-in = k ∙ u .second-in;
+    }
 
 -- The same heights, pixel by pixel.
 pub show-same : {grid : Grid} {marks b : List ℕ} (h k : List ℕ) → ((p : ℕ) → getD k p 0 ≡ getD h p 0)

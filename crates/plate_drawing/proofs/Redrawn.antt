@@ -14,7 +14,9 @@ use Rattle.rules.specs.Pictures.{stride, bitsOf}
 use Rattle.picture.specs.Shapes.{gridIn}
 use Rattle.picture.specs.declared.grid.Grid.{Grid}
 use Rattle.picture.proofs.BitShows.{zeros-at}
+use Rattle.code.proofs.RunLaws.{take-replicate}
 use Rattle.walk.specs.Cells.{Ready}
+use Rattle.walk.proofs.CellLaws.{small}
 use Rattle.plate_rules.specs.Plate.{places, placeSize, plateSize, placesFrom, placesOf, partsIn, unionOf, afresh}
 use Rattle.plate_rules.specs.Plate.{greater, redrawn, stored, padded, zeros, touched, tileOf}
 use Rattle.plate_rules.proofs.JoinedBytes.{drawn-flat}
@@ -26,7 +28,17 @@ use Rattle.plate_rules.proofs.Stored.{padded-size, reads-back, stored-taken}
 use Rattle.plate_rules.proofs.WalkTiles.{redrawn-rows}
 use Rattle.plate_tiles.specs.Tiles.{Sized, tileCount, tileNumbered, numberOf}
 use Rattle.plate_tiles.proofs.TileNumbers.{number-below, numbered-tile}
-use Rattle.plate_drawing.specs.Afresh.{Joins, addedHeights, Began, othersOf, comes}
+use Rattle.plate_drawing.specs.Afresh.{Joins, addedHeights, Began, othersOf, comes, pictureLimit}
+
+-- As much of the zeros as a flat picture is long.
+pub picture-fits : {grid : Grid} {b : List ℕ} → Ready false grid b → length b ≤ pictureLimit
+unfolding pictureLimit
+picture-fits {grid} r =
+    let s = small false grid (r .fault) in
+    omega (arith, r .size, s .width, mul-le-mul-right (stride (grid .width)) (s .height))
+
+pub blank-front : (n : ℕ) {b : List ℕ} → b ≡ replicate pictureLimit 0 → n ≤ pictureLimit → take n b ≡ replicate n 0
+blank-front n e l = ap (take n) e ∙ take-replicate n pictureLimit 0 l
 
 comes-size : (adds : Bool) (s : List ℕ) → readTape s .number ≡ 0 → length (comes adds s) ≡ placeSize
 comes-size true s e = padded-size s e

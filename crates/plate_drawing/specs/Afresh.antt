@@ -85,3 +85,7 @@ pub record ForChange (m : List ℕ) (p : ℕ) (s : List ℕ) (grid : Grid) (pict
 pub record ForRedraw (m : List ℕ) (p : ℕ) (s : List ℕ) (grid : Grid) (blank picture work : List ℕ) : Type 0 where
   pub change : ForChange m p s grid picture work
   pub clean : blank ≡ replicate (sizeIn false grid) 0
+
+-- As many bytes as any flat picture has; shut, so that no proof counts up to it.
+unfoldable pub pictureLimit : ℕ
+pictureLimit = 32768

@@ -3,8 +3,10 @@
 //! solid with its slopes.
 //! `bench slopes` prints a table of times of solids with slopes beside those without.
 //! `bench lengths` prints a table of the lengths of short tapes.
+//! `bench plate` prints the times of a part that comes and goes on a plate beside those of all parts drawn afresh.
 //! `bench swept` prints a table of times of parts along a path beside the full evaluation at all positions.
 
+mod plate;
 mod swept;
 
 use bench::drawing::{Canvas, Kind, Way};
@@ -19,10 +21,11 @@ fn main() {
         [] => table(),
         ["slopes"] => slopes(),
         ["lengths"] => lengths(),
+        ["plate"] => plate::table(runs()),
         ["swept"] => swept::table(runs()),
         [way, kind, name] => once(way, kind, name),
         _ => panic!(
-            "usage: bench [slopes | lengths | swept | tiles|plain|full flat|solid NAME | tiles|plain sloped NAME]"
+            "usage: bench [slopes | lengths | plate | swept | tiles|plain|full flat|solid NAME | tiles|plain sloped NAME]"
         ),
     }
 }

@@ -52,6 +52,11 @@ impl Bitmap {
         Ok(Drawn { picture: Bitmap { width: grid.width, height: grid.height, bytes }, count })
     }
 
+    /// The rows' memory, for a call that draws in them again.
+    pub(crate) fn lend(&mut self) -> &mut [u8] {
+        &mut self.bytes
+    }
+
     /// The number of columns.
     pub fn width(&self) -> u32 {
         self.width

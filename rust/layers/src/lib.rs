@@ -6,7 +6,8 @@
 //! [`Heightmap`] the part seen from above, if asked for with the [`Slopes`] that a viewer shades by, or, with
 //! [`Heightmap::draw_in_order`], the tiles first that a preview wants; [`Tape::probe`] gives the formula at one point,
 //! [`Bitmap::reason`] why a pixel is as it is, and [`Tape::union`] makes one part of two. A [`Sweep`] is what the part
-//! covers along a path. Values are whole numbers that count units of 1/65,536: [`fixed`] makes them.
+//! covers along a path, a [`Plate`] has parts that come and go. Values are whole numbers that count units of 1/65,536:
+//! [`fixed`] makes them.
 //!
 //! The part x − 2 on three columns and two rows, with samples in the middle of each cell, at x = 0.5, 1.5 and 2.5:
 //!
@@ -39,6 +40,7 @@ mod grid;
 mod heightmap;
 mod lend;
 mod netpbm;
+mod plate;
 mod probe;
 mod reason;
 mod refusal;
@@ -54,6 +56,7 @@ pub use drawing::{Drawn, Work};
 pub use fixed::{ONE, fixed};
 pub use grid::MAX_SIZE;
 pub use heightmap::Heightmap;
+pub use plate::{PLACES, Plate};
 pub use probe::Probe;
 pub use raw::Grid;
 pub use reason::{Reason, Stops};

@@ -114,6 +114,12 @@ pub const TEXT_TAPE: usize = 10_248;
 /// The most positions of a path.
 pub const POSITIONS: usize = 4_096;
 
+/// The bytes of a place of a plate's memory.
+pub const PLACE: usize = 65_536;
+
+/// The length of a plate's memory: eight places.
+pub const PLATE: usize = 8 * PLACE;
+
 /// Declares the core's calls and wraps each: `name` is `layers_name` of include/layers.h, and a slice goes there as a
 /// pointer and a length. For the tests that compare the header, it also lists them.
 macro_rules! calls {
@@ -206,6 +212,20 @@ calls! {
     /// below 0, or 0.
     fn tile_swept(tape: &[u8], grid: Grid, path: &[i32], picture: &mut [u16], work: &mut [u8]) -> Answer;
 
+    /// Stores a tape at an empty place of a plate's memory, [`PLATE`] bytes, and draws its flat picture afresh where the
+    /// part may have material.
+    fn plate_add(
+        memory: &mut [u8],
+        place: u32,
+        tape: &[u8],
+        grid: Grid,
+        picture: &mut [u8],
+        work: &mut [u8],
+    ) -> Answer;
+
+    /// Zeros a place of a plate's memory, and draws its flat picture afresh where the part may have had material.
+    fn plate_remove(memory: &mut [u8], place: u32, grid: Grid, picture: &mut [u8], work: &mut [u8]) -> Answer;
+
     /// The Netpbm bitmap file of a flat picture.
     fn write_bitmap(width: u32, height: u32, picture: &[u8], out: &mut [u8]) -> Answer;
 
@@ -274,7 +294,8 @@ mod tests {
         let defined = HEADER.lines().filter_map(|line| line.strip_prefix("#define LAYERS_")?.split_once(' '));
         let of_calls = defined.filter(|(_, value)| value.len() > 1);
         let lengths: Vec<(&str, String)> = of_calls.map(|(name, value)| (name, value.into())).collect();
-        let ours = [("WORK", WORK), ("TEXT_TAPE", TEXT_TAPE), ("POSITIONS", POSITIONS)];
+        let ours =
+            [("WORK", WORK), ("TEXT_TAPE", TEXT_TAPE), ("POSITIONS", POSITIONS), ("PLACE", PLACE), ("PLATE", PLATE)];
         assert_eq!(lengths, ours.map(|(name, value)| (name, value.to_string())));
     }
 }

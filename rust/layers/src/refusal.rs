@@ -1,6 +1,6 @@
 //! Why an input is turned down.
 
-use crate::raw::{Answer, POSITIONS, TEXT_TAPE, WORK};
+use crate::raw::{Answer, PLATE, POSITIONS, TEXT_TAPE, WORK};
 use crate::{FIRST_EDITION_CLAUSES, FIRST_EDITION_SLOTS, MAX_CLAUSES, MAX_SIZE, MAX_SLOTS, Opcode};
 use std::error::Error;
 use std::fmt;
@@ -79,7 +79,7 @@ refusals! {
     /// A line of the core's table of refusals, in the table's order. Clauses are counted from 0.
     ///
     /// A [`Tape`](crate::Tape) meets lines 1 to 9, or as text 17 to 19, a drawing of it 10 and 11, a probe 20, a union
-    /// 21, the reason for a pixel 23, a sweep 25. Lines 12 to 14 are about lent memory, so but for an order of tiles, which is 12
+    /// 21, a plate 22, the reason for a pixel 23, a sweep 25. Lines 12 to 14 are about lent memory, so but for an order of tiles, which is 12
     /// too, only the calls of [`raw`](crate::raw) meet them; 15 and 16 are about the input of the program `drawlayer`.
     ///
     /// ```
@@ -123,9 +123,10 @@ refusals! {
          64-tile of the grid just one time";
     13 WorkLength, "work buffer below 32,768 bytes",
         "the work buffer is too short: it needs {WORK} bytes";
-    14 OutputLength, "packing, unpacking, merging, text or file: output not of the exact length",
+    14 OutputLength,
+        "packing, unpacking, merging, text or file: output not of the exact length; plate memory not of 524,288 bytes",
         "the output buffer has the wrong length: it must be that of the tape, list or file to be written, for a text's \
-         tape {TEXT_TAPE}";
+         tape {TEXT_TAPE}, for a plate's memory {PLATE}";
     15 NoGridRecord, "program: input below 32 bytes or grid mark wrong",
         "the input must begin with a grid record of 32 bytes, the first two of them 47 52, before the tape";
     16 SolidTooLarge, "program: depth above 0 and width or height above 128",
@@ -143,6 +144,8 @@ refusals! {
     21 LargeUnion, "merging: a result of more than 6,144 clauses, the minimum counted, or of more than 128 slots",
         "one tape of two has the clauses of both and a minimum, at most {MAX_CLAUSES}, and the slots of both, at most \
          {MAX_SLOTS}: use slots again, or draw the parts one by one";
+    22 WrongPlace, "plate: a place above 7, taken on adding, or empty on removing",
+        "the places of a plate are 0 to 7, a part is added at an empty one and removed from where one is";
     23 PixelOutside, "reason: a pixel outside the grid",
         "columns and rows are counted from 0, so a pixel's are below the grid's width and height";
     25 PathOutOfRange,

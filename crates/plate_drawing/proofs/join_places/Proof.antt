@@ -8,12 +8,11 @@ use native.Mathlib.Omega.{arith}
 use lib.ListN.{length, take, replicate}
 use Rattle.picture.specs.Shapes.{gridIn}
 use Rattle.walk.specs.Cells.{sizeIn}
-use Rattle.walk.proofs.Places.{ready-again}
 use Rattle.plate_rules.specs.Plate.{placeSize, placesFrom, partsIn, unionOf}
 use Rattle.plate_rules.proofs.Places.{place-size, places-length}
 use Rattle.plate_tiles.proofs.JoinLaws.{blank-size}
 use Rattle.plate_drawing.specs.Afresh.{Joins, ForPlace}
-use Rattle.plate_drawing.proofs.JoinedParts.{no-places, next-place, all-placed, place-there, place-in}
+use Rattle.plate_drawing.proofs.JoinedParts.{buffers-again, no-places, next-place, all-placed, place-there, place-in}
 use borrow.Author.Needs.{needs}
 use Rattle.plate_drawing.proofs.join_places.Statement.{statement}
 use Rattle.plate_drawing.proofs.join_places.Tie as tie
@@ -72,20 +71,11 @@ join-place-requires c κs =
     let t = c .before .before .before .before .before .before .before in
     let a = begun (t .before) .args in
     let p = begun (t .before) .pre in
-    let u = p .1 in
     let l = t .before .loop in
     let k = l .inv in (
       subst ForPlace (sym (place-there (a .count) (a .places .now) (l .i) (t .loop-test .taken)))
           (place-in (a .count) (a .places .now) (p .0) (l .i) (t .loop-test .taken)),
-      record {
-        ready = ready-again (u .ready) (k .1);
-        size = u .size;
-        clean = k .6;
-        room = omega (arith, u .room, k .2);
-        words-in = k .3 ∙ u .words-in;
-        first-in = k .4 ∙ u .first-in;
-        second-in = k .5 ∙ u .second-in;
-      },
+      buffers-again (p .1) refl (k .6) (k .1) (k .2) (k .3) (k .4) (k .5),
     )
 
 add-i : tie.Need-add-i Inv-loop μ-loop

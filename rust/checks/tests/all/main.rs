@@ -10,6 +10,7 @@ mod inputs;
 mod lanes;
 mod merging;
 mod order;
+mod plate;
 mod probe;
 mod program;
 mod reason;

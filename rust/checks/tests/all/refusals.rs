@@ -53,7 +53,7 @@ pub fn wrong<T>(number: u8, put: impl Fn(&mut T) + 'static) -> Wrong<T> {
     Wrong { number, place: 0, put: Box::new(put) }
 }
 
-fn wrong_at<T>(number: u8, place: usize, put: impl Fn(&mut T) + 'static) -> Wrong<T> {
+pub fn wrong_at<T>(number: u8, place: usize, put: impl Fn(&mut T) + 'static) -> Wrong<T> {
     Wrong { number, place: place as u32, put: Box::new(put) }
 }
 

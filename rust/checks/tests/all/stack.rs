@@ -103,6 +103,25 @@ fn sweeps() {
     }
 }
 
+/// Parts that come and go on a plate of eight tiles, with others of the same tape there.
+#[test]
+fn plates() {
+    let grid = Grid { sizes: [512, 70, 0], origins: [-33_300, -1_300, 100], steps: [1000; 3] };
+    for list in tapes() {
+        let drawing = Drawing::new(list.tape(), grid);
+        let (core, memory, picture) = (drawing.core_grid(), vec![0; layers::raw::PLATE], vec![0; drawing.flat]);
+        let (mut lent, mut work) = ((memory, picture), vec![0; drawing.work]);
+        let numbers = on(MOST, move || {
+            let added = [0, 7, 3].map(|place| {
+                layers::raw::plate_add(&mut lent.0, place, &drawing.tape, core, &mut lent.1, &mut work).number
+            });
+            let removed = layers::raw::plate_remove(&mut lent.0, 7, core, &mut lent.1, &mut work).number;
+            (added, removed)
+        });
+        assert_eq!(numbers, ([0; 3], 0));
+    }
+}
+
 /// Draws in full.
 #[test]
 fn drawings_in_full() {

@@ -9,9 +9,16 @@ use plate_checks::free_fault;
 use plate_checks::lent_fault;
 use plate_checks::taken_fault;
 use plate_drawing::draw_change;
+use plate_places::PLACE_SIZE;
 use plate_places::empty_place;
 use plate_places::store_tape;
+use plate_places::tape_end;
 use tape_check::check_tape;
+ghost use mathlib.Core.Path.{_≡_};
+ghost use mathlib.Core.Bool.{false};
+ghost use Rattle.picture.specs.Shapes.{gridIn};
+ghost use Rattle.plate_rules.specs.Plate.{placeAt, tapeIn, partIn, afresh, redrawn, stored, zeros};
+ghost use Rattle.plate_drawing.specs.Afresh.{ForChange};
 ghost use Rattle.promises.specs.Plates.{AddSays, RemoveSays};
 
 pub fn plate_add(
@@ -45,6 +52,18 @@ pub fn plate_add(
     store_tape(memory, at, tape);
     clear(work);
     done(0)
+}
+
+// The picture without the part of a place, which is read from the memory itself.
+fn draw_removed(memory: &[u8], place: usize, grid: Grid, picture: &mut [u8], work: &mut [u8])
+    requires { ⌜ ForChange (now memory) place (tapeIn (placeAt place (now memory))) grid (now picture) (now work) ⌝ }
+    ensures { λ _. ⌜ now (picture .exit) ≡ redrawn (partIn (placeAt place (now (memory .entry)))) (gridIn grid false)
+        (afresh (stored place zeros (now (memory .entry))) (gridIn grid false)) (now (picture .entry)) ⌝ }
+{
+    let start = place * PLACE_SIZE;
+    let part = &memory[start..start + PLACE_SIZE];
+    let end = tape_end(part);
+    draw_change(memory, place, &part[..end], false, grid, picture, work)
 }
 
 pub fn plate_remove(
