@@ -282,8 +282,8 @@ struct Expected {
 }
 
 impl Expected {
-    fn of(turn: &Turn) -> Self {
-        let (tape, grid) = (Tape::from_bytes(&turn.drawing.tape).expect("an accepted tape"), turn.drawing.grid);
+    fn of(drawing: &Drawing) -> Self {
+        let (tape, grid) = (Tape::from_bytes(&drawing.tape).expect("an accepted tape"), drawing.grid);
         let bits = draw::bits(&grid, &draw::heights(&tape, &grid, false));
         Expected { tape, grid, bits, known: BTreeSet::new() }
     }
@@ -330,8 +330,7 @@ fn runs() {
     for _ in 0..runs {
         let drawing = Drawing::flat(&mut r, 20_000);
         let Turn { drawing, table: begun, .. } = fresh(drawing.tape, drawing.grid);
-        let mut expected =
-            Expected::of(&Turn { drawing: drawing.clone(), rectangle: at(0, 0, 1, 1), table: Vec::new() });
+        let mut expected = Expected::of(&drawing);
         let mut shared = begun.clone();
         let mut users: Vec<User> = (0..2 + r.below(2))
             .map(|_| r.bytes(drawing.flat))
