@@ -17,8 +17,10 @@
  * ask for minutes.
  *
  * Every call takes any input. It returns number, place and count. number 0: done; the whole output or picture is
- * written (of a text's tape no byte behind it), and the whole work buffer is 0. Any other number is a line of the table
- * of refusals: nothing lent has changed, count is 0, and place is the clause at fault for numbers 5 to 9, otherwise 0.
+ * written, and the whole work buffer is 0. Three kinds of call leave bytes as they were: of a text's tape those behind
+ * it, of a plate the tiles that the part cannot touch and the other places, of a shared table all outside the rectangle
+ * and the entries that were known. Any other number is a line of the table of refusals: nothing lent has changed, count
+ * is 0, and place is the clause at fault for numbers 5 to 9, otherwise 0.
  *
  *    1 tape below 8 bytes
  *    2 head mark, edition or spare bytes wrong
@@ -41,7 +43,7 @@
  *   21 merging: a result of more than 6,144 clauses, the minimum counted, or of more than 128 slots
  *   22 plate: a place above 7, taken on adding, or empty on removing
  *   23 reason: a pixel outside the grid
- *   24 table: not of 163,936 bytes, not of this tape and grid, a verdict above 3, or a kept tape that is turned down
+ *   24 table: not 163,936 bytes, not of this tape and grid, a verdict above 3, a kept tape refused or with a wrong copy
  *   25 path: empty, above 4,096 pairs, not in whole pairs, or a sample moved outside -2,147,483,647 to 2,147,483,647
  */
 #ifndef LAYERS_H

@@ -1,8 +1,9 @@
 //! The calls as the core has them: lent slices in, an answer by number out. The C interface is include/layers.h's. All
 //! unsafe code is here.
 //!
-//! Done, a call has written the whole output, picture or slopes and cleared the whole work buffer; a text's tape alone
-//! leaves what is behind it. Refused, it has changed nothing.
+//! Done, a call has written the whole output, picture or slopes and cleared the whole work buffer. Bytes stay behind a
+//! text's tape, in the tiles that a plate's part cannot touch, and outside a shared table's rectangle. Refused, it has
+//! changed nothing.
 
 /// What comes back of every call. [`into_result`](Answer::into_result) makes Rust's own form of it.
 #[repr(C)]

@@ -151,7 +151,7 @@ refusals! {
     23 PixelOutside, "reason: a pixel outside the grid",
         "columns and rows are counted from 0, so a pixel's are below the grid's width and height";
     24 WrongTable,
-        "table: not of 163,936 bytes, not of this tape and grid, a verdict above 3, or a kept tape that is turned down",
+        "table: not 163,936 bytes, not of this tape and grid, a verdict above 3, a kept tape refused or with a wrong copy",
         "a table of verdicts has {TABLE} bytes and is begun for the tape and the grid that it is drawn with: begin it anew";
     25 PathOutOfRange,
         "path: empty, above 4,096 pairs, not in whole pairs, or a sample moved outside −2,147,483,647 to 2,147,483,647",

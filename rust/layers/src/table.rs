@@ -211,7 +211,7 @@ mod tests {
         ] {
             assert_eq!(table.draw(outside, &mut table.blank()), Err(Refusal::SizeOutOfRange), "{outside:?}");
         }
-        // 199 columns have as many bytes as 200, and 150 by 200 pixels are fewer
+        // a picture of 199 columns has as many bytes; those of the others have more and fewer
         for other in [Grid::flat(199, 150), Grid::flat(150, 200), Grid::flat(1, 1)] {
             let mut picture = VerdictTable::new(&disc(), other).unwrap().blank();
             assert_eq!(table.draw(Rectangle::tile(0, 0), &mut picture), Err(Refusal::PictureOrOrder));

@@ -132,8 +132,9 @@ fn tables() {
         let (core, mut table, mut picture) = (drawing.core_grid(), vec![0; layers::raw::TABLE], vec![0; drawing.flat]);
         let (expected, clauses) =
             (tile(&drawing.tape, &grid, &mut picture, &mut vec![0; drawing.work]), list.clauses.len());
+        let tape = drawing.tape.clone();
+        let (begun, mut table) = on(ONE_ARRAY, move || (layers::raw::table_begin(&tape, core, &mut table), table));
         let said = on(MOST, move || {
-            let begun = layers::raw::table_begin(&drawing.tape, core, &mut table);
             let mut draw = || {
                 let mut work = vec![0; drawing.work];
                 layers::raw::table_draw(&drawing.tape, core, rectangle, &mut table, &mut picture, &mut work)

@@ -338,10 +338,21 @@ fn runs() {
             .collect();
         for _ in 0..30 {
             let (turn, which) = (any_turn(&mut r, &drawing), r.index(users.len()));
+            if r.below(16) == 0 {
+                begin_again(&drawing, [&mut shared, &mut users[which].table]);
+                expected.known.clear();
+            }
             numbers.insert(one_turn(&turn, &mut shared, &mut users[which], &mut expected, &mut r));
         }
     }
     assert!(runs < 40 || [0, 10, 11, 12, 13, 24].iter().all(|number| numbers.contains(number)), "{numbers:?}");
+}
+
+/// A user begins the table anew, and its own: no tile is known then, and no picture changes.
+fn begin_again(drawing: &Drawing, tables: [&mut Vec<u8>; 2]) {
+    for table in tables {
+        assert_eq!(raw::table_begin(&drawing.tape, drawing.core_grid(), table).number, 0);
+    }
 }
 
 /// Makes the turn on the shared table and on the user's own, and compares. Returns the answer's number.
