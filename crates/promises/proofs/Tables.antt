@@ -310,7 +310,12 @@ own-drawing-done s d w ts n m one u q l b o k r f inside size long =
     draw-numbers f .done (line 0) inside (plain-fault (gridIn d false) ∙ line 1)
     (true-ok s (tableGrid d) (line 0) (lastOf w ts .table) table) size long
 
--- A drawing that is refused leaves table, picture and work buffer as they came.
+-- A beginning that is refused leaves the table as it came, a drawing table, picture and work buffer.
+pub begin-refused : {s : List ℕ} {d : Grid} {b b′ : List ℕ} {r : Answer} → BeginSays s d b b′ r
+    → (r .number ≡ 0 → ⊥) → b′ ≡ b
+begin-refused {s} {d} {b} f h =
+    f .table ∙ rw (ne-eqb (beginFault s (tableGrid d) (length b)) 0 (λ y. h (f .answer .number ∙ y)))
+
 pub draw-refused : {s : List ℕ} {d : Grid} {q : Rectangle} {b b′ o o′ w w′ : List ℕ} {r : Answer}
     → DrawSays s d q b b′ o o′ w w′ r → (r .number ≡ 0 → ⊥) → (b′ ≡ b) × ((o′ ≡ o) × (w′ ≡ w))
 draw-refused {s} {d} {q} {b} {b′} {o} {o′} {w} f h =
