@@ -17,8 +17,10 @@
  * ask for minutes.
  *
  * Every call takes any input. It returns number, place and count. number 0: done; the whole output or picture is
- * written (of a text's tape no byte behind it), and the whole work buffer is 0. Any other number is a line of the table
- * of refusals: nothing lent has changed, count is 0, and place is the clause at fault for numbers 5 to 9, otherwise 0.
+ * written, and the whole work buffer is 0. Three kinds of call leave bytes as they were: of a text's tape those behind
+ * it, of a plate the tiles that the part cannot touch and the other places, of a shared table all outside the rectangle
+ * and the entries that were known. Any other number is a line of the table of refusals: nothing lent has changed, count
+ * is 0, and place is the clause at fault for numbers 5 to 9, otherwise 0.
  *
  *    1 tape below 8 bytes
  *    2 head mark, edition or spare bytes wrong
@@ -29,7 +31,7 @@
  *    7 an unused field not 0
  *    8 a used constant of -2,147,483,648
  *    9 a slot read that no earlier clause wrote
- *   10 a size not 1 to 512
+ *   10 a size not 1 to 512; a rectangle of tiles that is empty or leaves the grid
  *   11 a step below 1, or an origin, z or last sample outside -2,147,483,647 to 2,147,483,647
  *   12 picture or slope buffer not of the exact length; order list not of every tile one time
  *   13 work buffer below 32,768 bytes
@@ -41,6 +43,7 @@
  *   21 merging: a result of more than 6,144 clauses, the minimum counted, or of more than 128 slots
  *   22 plate: a place above 7, taken on adding, or empty on removing
  *   23 reason: a pixel outside the grid
+ *   24 table: not 163,936 bytes, not of this tape and grid, a verdict above 3, a kept tape refused or with a wrong copy
  *   25 path: empty, above 4,096 pairs, not in whole pairs, or a sample moved outside -2,147,483,647 to 2,147,483,647
  */
 #ifndef LAYERS_H
@@ -58,6 +61,7 @@ extern "C" {
 #define LAYERS_POSITIONS 4096
 #define LAYERS_PLACE 65536
 #define LAYERS_PLATE 524288
+#define LAYERS_TABLE 163936
 
 typedef struct {
     uint8_t number;
@@ -118,6 +122,14 @@ typedef struct {
     int32_t ystep;
     int32_t zstep;
 } LayersGrid;
+
+/* A rectangle of the 64-tiles of a flat grid: its first column and row of tiles, counted from 0, and how many of each. */
+typedef struct {
+    uint32_t column;
+    uint32_t row;
+    uint32_t columns;
+    uint32_t rows;
+} LayersRectangle;
 
 /*
  * A list, five numbers to a clause (opcode, out, left, right, constant), to a tape of 8 + 10 bytes a clause, and back.
@@ -200,6 +212,21 @@ LayersAnswer layers_plate_add(uint8_t *memory, size_t memory_len, uint32_t place
                               LayersGrid grid, uint8_t *picture, size_t picture_len, uint8_t *work, size_t work_len);
 LayersAnswer layers_plate_remove(uint8_t *memory, size_t memory_len, uint32_t place, LayersGrid grid, uint8_t *picture,
                                  size_t picture_len, uint8_t *work, size_t work_len);
+
+/*
+ * Rectangles of whole 64-tiles of one flat picture, drawn by turns: each user has a picture of its own, and all share a
+ * table of LAYERS_TABLE bytes. It holds the tape, zeros up to byte 65,536, the program's grid record with depth and third
+ * step 0, then for 64 tiles, row by row, a verdict (0 unknown, 1 full, 2 empty, 3 its short tape) and 1,536 bytes, for 3 two
+ * bits a clause, else 0. layers_table_begin writes all of it, each tile unknown; its count is 0. layers_table_draw draws the
+ * rectangle's tiles, writes the verdict of those that were unknown, and touches no byte of the picture outside the
+ * rectangle. From a table begun, in any order of turns, the rectangle's pixels are layers_tile_flat's; the count is the
+ * walk's over these tiles, without the region of side 64 where the verdict was known. 24 is checked behind 11 and before 12.
+ * Any other table is refused with 24, or its bytes alone tell picture and count. Only one user calls at a time.
+ */
+LayersAnswer layers_table_begin(const uint8_t *tape, size_t tape_len, LayersGrid grid, uint8_t *table, size_t table_len);
+LayersAnswer layers_table_draw(const uint8_t *tape, size_t tape_len, LayersGrid grid, LayersRectangle rectangle,
+                               uint8_t *table, size_t table_len, uint8_t *picture, size_t picture_len, uint8_t *work,
+                               size_t work_len);
 
 /* Netpbm files. */
 LayersAnswer layers_write_bitmap(uint32_t width, uint32_t height, const uint8_t *picture, size_t picture_len, uint8_t *out,

@@ -15,7 +15,7 @@ ghost use Rattle.walk.specs.Draws.{Fills};
 ghost use Rattle.walk.specs.Walks.{Shown, Looked};
 ghost use Rattle.flat_eights.specs.Eights.{ForFill, ForFlatLook};
 
-fn fill(grid: Grid, c: Cell, picture: &mut [u8])
+pub fn fill(grid: Grid, c: Cell, picture: &mut [u8])
     requires { ⌜ ForFill grid c (now picture) ⌝ }
     ensures { λ _. ⌜ Fills (Shown false grid) (gridIn grid false) (regionIn c)
         (now (picture .entry)) (now (picture .exit)) ⌝ }

@@ -9,10 +9,12 @@ pub use promises::Probe;
 pub use promises::Probed;
 pub use promises::Reason;
 pub use promises::Sided;
+pub use rectangle::Rectangle;
 ghost use mathlib.Core.Bool.{true, false};
 ghost use Rattle.promises.specs.Plates.{AddSays, RemoveSays};
 ghost use Rattle.promises.specs.Says.{PackSays, UnpackSays, FullSays, TilesSay, SlopesSay, BitmapSays, HeightsSay};
 ghost use Rattle.promises.specs.Says.{ProbeSays, SidedSays, MergeSays, TextAnswered, ReasonSays, OrderSays, SweptSays};
+ghost use Rattle.promises.specs.Tables.{BeginSays, DrawSays};
 
 pub fn pack_tape(slots: u32, list: &[i32], out: &mut [u8]) -> Answer
     ensures { λ r. ⌜ PackSays slots (now (list .entry)) (now (out .entry)) (now (out .exit)) r ⌝ }
@@ -122,6 +124,26 @@ pub fn plate_remove(
         (now (picture .exit)) (now (work .entry)) (now (work .exit)) r ⌝ }
 {
     plate::plate_remove(memory, place, grid, picture, work)
+}
+
+pub fn table_begin(tape: &[u8], grid: Grid, table: &mut [u8]) -> Answer
+    ensures { λ r. ⌜ BeginSays (now (tape .entry)) grid (now (table .entry)) (now (table .exit)) r ⌝ }
+{
+    table_calls::table_begin(tape, grid, table)
+}
+
+pub fn table_draw(
+    tape: &[u8],
+    grid: Grid,
+    rectangle: Rectangle,
+    table: &mut [u8],
+    picture: &mut [u8],
+    work: &mut [u8],
+) -> Answer
+    ensures { λ r. ⌜ DrawSays (now (tape .entry)) grid rectangle (now (table .entry)) (now (table .exit))
+        (now (picture .entry)) (now (picture .exit)) (now (work .entry)) (now (work .exit)) r ⌝ }
+{
+    table_calls::table_draw(tape, grid, rectangle, table, picture, work)
 }
 
 pub fn merge_tapes(first: &[u8], second: &[u8], out: &mut [u8]) -> Answer

@@ -6,10 +6,12 @@ use promises::Listed;
 use promises::Point;
 use promises::Reason;
 use promises::Sided;
+use rectangle::Rectangle;
 ghost use mathlib.Core.Bool.{true, false};
 ghost use Rattle.promises.specs.Plates.{AddSays, RemoveSays};
 ghost use Rattle.promises.specs.Says.{PackSays, UnpackSays, FullSays, TilesSay, BitmapSays, HeightsSay};
 ghost use Rattle.promises.specs.Says.{SidedSays, SlopesSay, MergeSays, TextAnswered, ReasonSays, OrderSays, SweptSays};
+ghost use Rattle.promises.specs.Tables.{BeginSays, DrawSays};
 
 #[no_mangle]
 pub extern "C" fn layers_pack_tape(slots: u32, list: &[i32], out: &mut [u8]) -> Answer
@@ -154,6 +156,28 @@ pub extern "C" fn layers_plate_remove(
         (now (picture .exit)) (now (work .entry)) (now (work .exit)) r ⌝ }
 {
     layers::plate_remove(memory, place, grid, picture, work)
+}
+
+#[no_mangle]
+pub extern "C" fn layers_table_begin(tape: &[u8], grid: Grid, table: &mut [u8]) -> Answer
+    ensures { λ r. ⌜ BeginSays (now (tape .entry)) grid (now (table .entry)) (now (table .exit)) r ⌝ }
+{
+    layers::table_begin(tape, grid, table)
+}
+
+#[no_mangle]
+pub extern "C" fn layers_table_draw(
+    tape: &[u8],
+    grid: Grid,
+    rectangle: Rectangle,
+    table: &mut [u8],
+    picture: &mut [u8],
+    work: &mut [u8],
+) -> Answer
+    ensures { λ r. ⌜ DrawSays (now (tape .entry)) grid rectangle (now (table .entry)) (now (table .exit))
+        (now (picture .entry)) (now (picture .exit)) (now (work .entry)) (now (work .exit)) r ⌝ }
+{
+    layers::table_draw(tape, grid, rectangle, table, picture, work)
 }
 
 #[no_mangle]

@@ -10,3 +10,4 @@ pub mod Reasons
 pub mod Orders
 pub mod Swept
 pub mod Plates
+pub mod Tables

@@ -25,8 +25,9 @@ use Rattle.plate_rules.proofs.JoinedBytes.{Flat, pixel-most, union-flat}
 use Rattle.plate_rules.proofs.Material.{union-has}
 use Rattle.plate_rules.proofs.PlateBytes.{pixels, bits-at, pixel-at}
 use Rattle.plate_rules.proofs.PlateChanges.{line-off, afresh-length}
+use Rattle.plate_rules.proofs.Refusals.{AddOrder, add-order, RemoveOrder, remove-order}
 use Rattle.plate_rules.proofs.Runs.{cleared-right, follows-right, left-fields}
-use Rattle.promises.specs.Plates.{plate, PlateSays}
+use Rattle.promises.specs.Plates.{plate, PlateSays, AddSays, RemoveSays}
 use Rattle.promises.specs.PlateRuns.{Asked, adds, removes, gridAsked, Says, Part, lent, putBack, Turn, afterTurn}
 use Rattle.promises.specs.PlateRuns.{Makes, Turns, lastOf, PlateShown, Holds-along-runs}
 
@@ -222,3 +223,24 @@ pub holds-along-runs : Holds-along-runs
 holds-along-runs d ts k =
     let q = cleared (gridIn d false) in
     shown d (lastOf q ts) (turns-right d q ts k (cleared-right (gridIn d false)))
+
+-- The number that a call returns is the first of its lines that holds, and these have the paper's order.
+pub record AddNumbered (p : ℕ) (s : List ℕ) (g : D.Grid) (q : Plate) (k n : ℕ) : Type 0 where
+  pub number : n ≡ addFault p s g q k
+  pub order : AddOrder p s g q k
+
+pub add-numbered : (p : ℕ) (s : List ℕ) (d : Grid) {m m′ o o′ w w′ : List ℕ} {r : Answer}
+    → AddSays p s d m m′ o o′ w w′ r → AddNumbered p s (gridIn d false) (plate m o) (length w) (r .number)
+unfolding addFault faultOf
+add-numbered p s d {m} {m′} {o} {o′} {w} f =
+    record { number = f .answer .number; order = add-order p s (gridIn d false) (plate m o) (length w) }
+
+pub record RemoveNumbered (p : ℕ) (g : D.Grid) (q : Plate) (k n : ℕ) : Type 0 where
+  pub number : n ≡ removeFault p g q k
+  pub order : RemoveOrder p g q k
+
+pub remove-numbered : (p : ℕ) (d : Grid) {m m′ o o′ w w′ : List ℕ} {r : Answer}
+    → RemoveSays p d m m′ o o′ w w′ r → RemoveNumbered p (gridIn d false) (plate m o) (length w) (r .number)
+unfolding removeFault faultOf
+remove-numbered p d {m} {m′} {o} {o′} {w} f =
+    record { number = f .answer .number; order = remove-order p (gridIn d false) (plate m o) (length w) }

@@ -5,3 +5,5 @@ pub mod Figures
 pub mod Says
 pub mod Plates
 pub mod PlateRuns
+pub mod Tables
+pub mod TableRuns

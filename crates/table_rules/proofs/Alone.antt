@@ -147,6 +147,12 @@ module _ (s : List ℕ) (d : Grid) (good : readTape s .number ≡ 0) (fine : gri
           (true-table (w .table) a) (f .says) (f .says .answer .number ∙ z) .table)
       go false h = subst Ours (sym (refused-left n _ (w .table) (m .table) h (f .says .table))) a
 
+  pub run-ours : {w w′ : World} {ks : List Turn} → Run w ks w′ → OnePicture s d (callsOf ks) → Ours (w .table)
+      → Ours (w′ .table)
+  unfolding OnePicture
+  run-ours none e a = a
+  run-ours (next {w} {m} {w′} {c} {r} {ks} f rest) e a = run-ours rest (e .1) (step-ours c w m r (e .0) f a)
+
   -- A user's picture after a call, by the call alone.
   step-alone : (u : ℕ) (c : Call) (w m : World) (r : Answer) → Follows c w m r → Ours (w .table)
       → m .pictures u ≡ pictureAfter u c (ownNumber s d c (w .pictures u)) (w .pictures u)

@@ -5,9 +5,11 @@
 //! `bench lengths` prints a table of the lengths of short tapes.
 //! `bench plate` prints the times of a part that comes and goes on a plate beside those of all parts drawn afresh.
 //! `bench swept` prints a table of times of parts along a path beside the full evaluation at all positions.
+//! `bench table` prints what a table of verdicts costs a call, and from which picture on sharing one pays.
 
 mod plate;
 mod swept;
+mod table;
 
 use bench::drawing::{Canvas, Kind, Way};
 use bench::measure::{Times, in_turn};
@@ -18,14 +20,15 @@ use parts::Part;
 fn main() {
     let words: Vec<String> = std::env::args().skip(1).collect();
     match words.iter().map(String::as_str).collect::<Vec<_>>()[..] {
-        [] => table(),
+        [] => drawings(),
         ["slopes"] => slopes(),
         ["lengths"] => lengths(),
         ["plate"] => plate::table(runs()),
         ["swept"] => swept::table(runs()),
+        ["table"] => table::table(runs()),
         [way, kind, name] => once(way, kind, name),
         _ => panic!(
-            "usage: bench [slopes | lengths | plate | swept | tiles|plain|full flat|solid NAME | tiles|plain sloped NAME]"
+            "usage: bench [slopes | lengths | plate | swept | table | tiles|plain|full flat|solid NAME | tiles|plain sloped NAME]"
         ),
     }
 }
@@ -51,7 +54,7 @@ fn runs() -> usize {
     std::env::var("BENCH_RUNS").map_or(9, |text| text.parse().expect("BENCH_RUNS is a number"))
 }
 
-fn table() {
+fn drawings() {
     let runs = runs();
     println!(
         "Least of {runs} or more runs, tiles and plain in turn; 'in turn' is the median of the ratios in each turn."

@@ -66,6 +66,20 @@ impl Turn {
         turn
     }
 
+    /// From a table that is noise behind its head; of its verdicts some may be above 3.
+    pub fn noisy(r: &mut Random) -> Self {
+        let mut turn = Turn::random(r);
+        let noise = r.bytes(TABLE - HEAD);
+        turn.table[HEAD..].copy_from_slice(&noise);
+        let most = if r.one_in(20) { 5 } else { 4 };
+        for number in 0..TILES {
+            // marks of noise keep a tape that is turned down, unless it is short
+            let verdict = if r.one_in(50) { r.below(most) } else { r.below(3) };
+            turn.table[HEAD + ENTRY * number] = verdict as u8;
+        }
+        turn
+    }
+
     /// With something damaged: the table, the rectangle, the tape, the grid, a length.
     pub fn damaged(r: &mut Random) -> Self {
         let mut turn = if r.one_in(2) { Turn::foreign(r) } else { Turn::random(r) };
@@ -111,7 +125,7 @@ impl Turn {
         }
     }
 
-    fn damage_rectangle(&mut self, r: &mut Random) {
+    pub fn damage_rectangle(&mut self, r: &mut Random) {
         let Rectangle { column, row, columns, rows } = &mut self.rectangle;
         match r.below(6) {
             0 => *columns = 0,
@@ -128,6 +142,11 @@ impl Turn {
         table_draw(&self.drawing.tape, &self.drawing.grid, self.rectangle, table, picture, work)
     }
 
+    pub fn core_rectangle(&self) -> raw::Rectangle {
+        let Rectangle { column, row, columns, rows } = self.rectangle;
+        raw::Rectangle { column, row, columns, rows }
+    }
+
     /// Both calls' answer, or how they differ in it or in a buffer; picture and work are full of noise before.
     pub fn compare(
         &self,
@@ -135,10 +154,18 @@ impl Turn {
         core: impl FnOnce(&Turn, &mut Lent) -> raw::Answer,
     ) -> Result<Answer, String> {
         let lent = (self.table.clone(), noise.bytes(self.drawing.flat), noise.bytes(self.drawing.work));
-        both("table_draw", &lent, |l| core(self, l), |l| self.slow(l)).map_err(|e| {
-            let entries: Vec<&[u8]> =
-                self.table.get(HEAD..).unwrap_or(&[]).chunks(ENTRY).map(|e| &e[..e.len().min(9)]).collect();
-            format!("{e}: {:?}, {:?}, entries {entries:x?}", self.drawing, self.rectangle)
+        self.compare_on(&lent, core)
+    }
+
+    /// The same on what is lent.
+    pub fn compare_on(
+        &self,
+        lent: &Lent,
+        core: impl FnOnce(&Turn, &mut Lent) -> raw::Answer,
+    ) -> Result<Answer, String> {
+        both("table_draw", lent, |l| core(self, l), |l| self.slow(l)).map_err(|e| {
+            let entries = lent.0.get(HEAD..).unwrap_or(&[]).chunks(ENTRY).map(|e| &e[..e.len().min(9)]);
+            format!("{e}: {:?}, {:?}, entries {:x?}", self.drawing, self.rectangle, entries.collect::<Vec<_>>())
         })
     }
 

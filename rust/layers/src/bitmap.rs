@@ -52,6 +52,12 @@ impl Bitmap {
         Ok(Drawn { picture: Bitmap { width: grid.width, height: grid.height, bytes }, count })
     }
 
+    /// A picture without material, on a grid whose sizes were accepted.
+    pub(crate) fn blank(grid: Grid) -> Bitmap {
+        let (width, height) = sizes(grid);
+        Bitmap { width: grid.width, height: grid.height, bytes: vec![0; row_bytes(width) * height] }
+    }
+
     /// The rows' memory, for a call that draws in them again.
     pub(crate) fn lend(&mut self) -> &mut [u8] {
         &mut self.bytes

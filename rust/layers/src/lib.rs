@@ -6,8 +6,8 @@
 //! [`Heightmap`] the part seen from above, if asked for with the [`Slopes`] that a viewer shades by, or, with
 //! [`Heightmap::draw_in_order`], the tiles first that a preview wants; [`Tape::probe`] gives the formula at one point,
 //! [`Bitmap::reason`] why a pixel is as it is, and [`Tape::union`] makes one part of two. A [`Sweep`] is what the part
-//! covers along a path, a [`Plate`] has parts that come and go. Values are whole numbers that count units of 1/65,536:
-//! [`fixed`] makes them.
+//! covers along a path, a [`Plate`] has parts that come and go, and with a [`VerdictTable`] those who draw parts of one
+//! bitmap by turns share the work. Values are whole numbers that count units of 1/65,536: [`fixed`] makes them.
 //!
 //! The part x − 2 on three columns and two rows, with samples in the middle of each cell, at x = 0.5, 1.5 and 2.5:
 //!
@@ -46,6 +46,7 @@ mod reason;
 mod refusal;
 mod slopes;
 mod sweep;
+mod table;
 mod tape;
 mod text;
 mod union;
@@ -58,11 +59,12 @@ pub use grid::MAX_SIZE;
 pub use heightmap::Heightmap;
 pub use plate::{PLACES, Plate};
 pub use probe::Probe;
-pub use raw::Grid;
+pub use raw::{Grid, Rectangle};
 pub use reason::{Reason, Stops};
 pub use refusal::Refusal;
 pub use slopes::Slopes;
 pub use sweep::{MAX_POSITIONS, Sweep};
+pub use table::{Verdict, VerdictTable};
 pub use tape::{FIRST_EDITION_CLAUSES, FIRST_EDITION_SLOTS, MAX_CLAUSES, MAX_SLOTS, Tape};
 pub use text::TextError;
 pub use union::UnionError;

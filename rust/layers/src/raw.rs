@@ -1,8 +1,9 @@
 //! The calls as the core has them: lent slices in, an answer by number out. The C interface is include/layers.h's. All
 //! unsafe code is here.
 //!
-//! Done, a call has written the whole output, picture or slopes and cleared the whole work buffer; a text's tape alone
-//! leaves what is behind it. Refused, it has changed nothing.
+//! Done, a call has written the whole output, picture or slopes and cleared the whole work buffer. Bytes stay behind a
+//! text's tape, in the tiles that a plate's part cannot touch, and outside a shared table's rectangle. Refused, it has
+//! changed nothing.
 
 /// What comes back of every call. [`into_result`](Answer::into_result) makes Rust's own form of it.
 #[repr(C)]
@@ -104,6 +105,29 @@ pub struct Grid {
     pub zstep: i32,
 }
 
+/// A rectangle of the 64-tiles of a flat grid, for a [`VerdictTable`](crate::VerdictTable).
+///
+/// ```
+/// use layers::{Grid, Rectangle};
+///
+/// // 100 by 70 pixels are two tiles by two
+/// let all = Rectangle::whole(Grid::flat(100, 70));
+/// assert_eq!(all, Rectangle { column: 0, row: 0, columns: 2, rows: 2 });
+/// assert_eq!(all.tiles().nth(2), Some(Rectangle::tile(0, 1)));
+/// ```
+#[repr(C)]
+#[derive(Clone, Copy, Debug, PartialEq, Eq, Hash)]
+pub struct Rectangle {
+    /// The first column of tiles, counted from 0.
+    pub column: u32,
+    /// The first row of tiles, counted from 0.
+    pub row: u32,
+    /// How many columns of tiles.
+    pub columns: u32,
+    /// How many rows of tiles.
+    pub rows: u32,
+}
+
 /// The least length of a work buffer, in bytes, whatever the tape: a short tape is kept there as two bits a clause
 /// beside the tape as given.
 pub const WORK: usize = 32_768;
@@ -119,6 +143,9 @@ pub const PLACE: usize = 65_536;
 
 /// The length of a plate's memory: eight places.
 pub const PLATE: usize = 8 * PLACE;
+
+/// The length of a table of verdicts.
+pub const TABLE: usize = 163_936;
 
 /// Declares the core's calls and wraps each: `name` is `layers_name` of include/layers.h, and a slice goes there as a
 /// pointer and a length. For the tests that compare the header, it also lists them.
@@ -226,6 +253,20 @@ calls! {
     /// Zeros a place of a plate's memory, and draws its flat picture afresh where the part may have had material.
     fn plate_remove(memory: &mut [u8], place: u32, grid: Grid, picture: &mut [u8], work: &mut [u8]) -> Answer;
 
+    /// Writes a table of verdicts, [`TABLE`] bytes, in which each 64-tile of the flat grid is unknown.
+    fn table_begin(tape: &[u8], grid: Grid, table: &mut [u8]) -> Answer;
+
+    /// Draws a rectangle of the 64-tiles of [`tile_flat`]'s picture, with a table of verdicts, which gets those of the
+    /// tiles that were unknown. The picture's bytes outside the rectangle stay.
+    fn table_draw(
+        tape: &[u8],
+        grid: Grid,
+        rectangle: Rectangle,
+        table: &mut [u8],
+        picture: &mut [u8],
+        work: &mut [u8],
+    ) -> Answer;
+
     /// The Netpbm bitmap file of a flat picture.
     fn write_bitmap(width: u32, height: u32, picture: &[u8], out: &mut [u8]) -> Answer;
 
@@ -294,8 +335,14 @@ mod tests {
         let defined = HEADER.lines().filter_map(|line| line.strip_prefix("#define LAYERS_")?.split_once(' '));
         let of_calls = defined.filter(|(_, value)| value.len() > 1);
         let lengths: Vec<(&str, String)> = of_calls.map(|(name, value)| (name, value.into())).collect();
-        let ours =
-            [("WORK", WORK), ("TEXT_TAPE", TEXT_TAPE), ("POSITIONS", POSITIONS), ("PLACE", PLACE), ("PLATE", PLATE)];
+        let ours = [
+            ("WORK", WORK),
+            ("TEXT_TAPE", TEXT_TAPE),
+            ("POSITIONS", POSITIONS),
+            ("PLACE", PLACE),
+            ("PLATE", PLATE),
+            ("TABLE", TABLE),
+        ];
         assert_eq!(lengths, ours.map(|(name, value)| (name, value.to_string())));
     }
 }

@@ -1,6 +1,6 @@
 //! Why an input is turned down.
 
-use crate::raw::{Answer, PLATE, POSITIONS, TEXT_TAPE, WORK};
+use crate::raw::{Answer, PLATE, POSITIONS, TABLE, TEXT_TAPE, WORK};
 use crate::{FIRST_EDITION_CLAUSES, FIRST_EDITION_SLOTS, MAX_CLAUSES, MAX_SIZE, MAX_SLOTS, Opcode};
 use std::error::Error;
 use std::fmt;
@@ -79,8 +79,9 @@ refusals! {
     /// A line of the core's table of refusals, in the table's order. Clauses are counted from 0.
     ///
     /// A [`Tape`](crate::Tape) meets lines 1 to 9, or as text 17 to 19, a drawing of it 10 and 11, a probe 20, a union
-    /// 21, a plate 22, the reason for a pixel 23, a sweep 25. Lines 12 to 14 are about lent memory, so but for an order of tiles, which is 12
-    /// too, only the calls of [`raw`](crate::raw) meet them; 15 and 16 are about the input of the program `drawlayer`.
+    /// 21, a plate 22, the reason for a pixel 23, a sweep 25. Lines 12 to 14 and 24 are about lent memory, so but for an
+    /// order of tiles and for a picture that a table is to draw in, which are 12 too, only the calls of
+    /// [`raw`](crate::raw) meet them; 15 and 16 are about the input of the program `drawlayer`.
     ///
     /// ```
     /// use layers::{Refusal, Tape};
@@ -112,8 +113,9 @@ refusals! {
         "has the constant -2147483648: the least is {LEAST}";
     9 UnwrittenSlot { clause }, "a slot read that no earlier clause wrote",
         "reads a slot that no earlier clause wrote: write it first";
-    10 SizeOutOfRange, "a size not 1 to 512",
-        "width, height and, for a heightmap, depth must be 1 to {MAX_SIZE}: draw a larger grid in pieces";
+    10 SizeOutOfRange, "a size not 1 to 512; a rectangle of tiles that is empty or leaves the grid",
+        "width, height and, for a heightmap, depth must be 1 to {MAX_SIZE}: draw a larger grid in pieces; a rectangle of \
+         64-tiles has at least one, and none beyond the grid's last";
     11 SampleOutOfRange, "a step below 1, or an origin, z or last sample outside −2,147,483,647 to 2,147,483,647",
         "steps must be 1 or more, and the origin and the last sample of each axis, half a step beyond where its cell \
          begins, {LEAST} to {GREATEST}: move the grid, or take smaller steps";
@@ -148,6 +150,9 @@ refusals! {
         "the places of a plate are 0 to 7, a part is added at an empty one and removed from where one is";
     23 PixelOutside, "reason: a pixel outside the grid",
         "columns and rows are counted from 0, so a pixel's are below the grid's width and height";
+    24 WrongTable,
+        "table: not 163,936 bytes, not of this tape and grid, a verdict above 3, a kept tape refused or with a wrong copy",
+        "a table of verdicts has {TABLE} bytes and is begun for the tape and the grid that it is drawn with: begin it anew";
     25 PathOutOfRange,
         "path: empty, above 4,096 pairs, not in whole pairs, or a sample moved outside −2,147,483,647 to 2,147,483,647",
         "a path has 1 to {POSITIONS} positions, each the offsets of x and y, and every sample less its offset must be \
@@ -228,7 +233,8 @@ mod tests {
         }
     }
 
-    /// Lines 12 to 14, met by lending the wrong memory: no call of the wrapper meets them, but for the order list's 12.
+    /// Lines 12 to 14 and 24, met by lending the wrong memory: no call of the wrapper meets them, but for the 12 of an
+    /// order list and of a picture that a table is to draw in.
     #[test]
     fn lent_memory() {
         let tape = crate::Tape::from_list(1, &[1, 0, 0, 0, 0]).unwrap();
@@ -250,6 +256,11 @@ mod tests {
         assert_eq!(raw::unpack_tape(tape.as_bytes(), &mut [0; 4]).answer.into_result(), Err(Refusal::OutputLength));
         let merge = |len: usize| raw::merge_tapes(tape.as_bytes(), tape.as_bytes(), &mut vec![0; len]).into_result();
         assert_eq!([37, 38, 39].map(merge), [Err(Refusal::OutputLength), Ok(0), Err(Refusal::OutputLength)]);
+        let begin = |len: usize| raw::table_begin(tape.as_bytes(), grid, &mut vec![0; len]).into_result();
+        assert_eq!(
+            [TABLE - 1, TABLE, TABLE + 1].map(begin),
+            [Err(Refusal::WrongTable), Ok(0), Err(Refusal::WrongTable)]
+        );
     }
 
     #[test]

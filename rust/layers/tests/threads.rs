@@ -1,6 +1,9 @@
 //! The public types go from thread to thread, and threads share them.
 
-use layers::{Bitmap, Clause, Drawn, Grid, Heightmap, ONE, Opcode, Refusal, Slopes, Tape, Work, fixed, raw};
+use layers::{
+    Bitmap, Clause, Drawn, Grid, Heightmap, ONE, Opcode, Plate, Rectangle, Refusal, Slopes, Tape, VerdictTable, Work,
+    fixed, raw,
+};
 use std::thread;
 
 fn shared<T: Send + Sync + 'static>() {}
@@ -14,9 +17,12 @@ fn every_type_is_send_and_sync() {
     shared::<Grid>();
     shared::<Heightmap>();
     shared::<Opcode>();
+    shared::<Plate>();
+    shared::<Rectangle>();
     shared::<Refusal>();
     shared::<Slopes>();
     shared::<Tape>();
+    shared::<VerdictTable>();
     shared::<Work>();
     shared::<raw::Answer>();
     shared::<raw::Listed>();

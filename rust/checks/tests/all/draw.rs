@@ -674,7 +674,10 @@ fn a_grid_that_is_none() {
     assert_eq!(complained, "draw: x.txt, line 3: a second grid\n");
     // the program's own refusals
     let complained = complaint("a_grid_too_large", b"# layer 600 8 from 0 0 0 step 1\nx");
-    assert_eq!(complained, "draw: x.txt: refused 10 at 0 (a size not 1 to 512)\n");
+    assert_eq!(
+        complained,
+        "draw: x.txt: refused 10 at 0 (a size not 1 to 512; a rectangle of tiles that is empty or leaves the grid)\n"
+    );
     let complained = complaint("a_grid_too_far", b"# layer 512 8 from 32700 0 0 step 1\nx");
     assert!(complained.starts_with("draw: x.txt: refused 11 at 0 (a step below 1, "), "{complained}");
     assert!(complained.ends_with("; all counted in units of 1/65,536)\n"), "{complained}");

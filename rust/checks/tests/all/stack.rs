@@ -5,7 +5,7 @@ use crate::reason;
 use checks::compare::answer;
 use checks::drawing::Drawing;
 use checks::lists::List;
-use slow::call::{draw, tile};
+use slow::call::{Answer, draw, tile};
 use slow::draw::Grid;
 use slow::order::tile_solid_in_order;
 use slow::seen::{self, Event};
@@ -119,6 +119,30 @@ fn plates() {
             (added, removed)
         });
         assert_eq!(numbers, ([0; 3], 0));
+    }
+}
+
+/// Tables of verdicts: rectangles of 16 tiles, first unknown and then known.
+#[test]
+fn tables() {
+    let grid = Grid { sizes: [512, 70, 0], origins: [-33_300, -1_300, 100], steps: [1000; 3] };
+    let rectangle = layers::Rectangle { column: 0, row: 0, columns: 8, rows: 2 };
+    for list in tapes() {
+        let drawing = Drawing::new(list.tape(), grid);
+        let (core, mut table, mut picture) = (drawing.core_grid(), vec![0; layers::raw::TABLE], vec![0; drawing.flat]);
+        let (expected, clauses) =
+            (tile(&drawing.tape, &grid, &mut picture, &mut vec![0; drawing.work]), list.clauses.len());
+        let tape = drawing.tape.clone();
+        let (begun, mut table) = on(ONE_ARRAY, move || (layers::raw::table_begin(&tape, core, &mut table), table));
+        let said = on(MOST, move || {
+            let mut draw = || {
+                let mut work = vec![0; drawing.work];
+                layers::raw::table_draw(&drawing.tape, core, rectangle, &mut table, &mut picture, &mut work)
+            };
+            [answer(begun), answer(draw()), answer(draw())]
+        });
+        let counts = [0, expected.count, expected.count - 16 * clauses as u64];
+        assert_eq!(said, counts.map(|count| Answer { number: 0, place: 0, count }));
     }
 }
 

@@ -1,0 +1,2 @@
+-- Rectangles of tiles.
+pub mod Rectangles

@@ -1,0 +1,3 @@
+-- Laws by which both calls are proved.
+pub mod TableChecks
+pub mod Calls

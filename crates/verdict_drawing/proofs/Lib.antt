@@ -1,0 +1,5 @@
+-- Laws by which a rectangle's drawing is proved.
+pub mod Numbering
+pub mod TileLoop
+pub mod Laying
+pub mod TapeTurn

@@ -1,0 +1,3 @@
+-- What the functions of this crate are held to.
+pub mod Rects
+pub mod Rectangles

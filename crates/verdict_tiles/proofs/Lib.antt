@@ -1,0 +1,3 @@
+-- Laws by which a tile with the table is proved.
+pub mod SharedLaws
+pub mod KnownLaws
