@@ -257,12 +257,14 @@ pub record Few (c : Cell) : Type 0 where
   pub to : c .zend ≤ c .z + 4
   pub count : chunkCount c ≤ 8
 
+pub cell-few : {layers : ℕ} {grid : declared.Grid} {c : Cell} → CellOk layers grid c → c .side ≡ 4 → Few c
+cell-few k e =
+    let z = k .zs in
+    record { from = omega arith; to = omega arith; count = omega arith }
+
 module _ {ws : List ℕ} {grid : declared.Grid} {c : Cell} {b : List ℕ} (p : ForSamples ws grid c b) where
   pub chunks-few : Few c
-  chunks-few =
-      let z = p .cell .zs in
-      let e = p .side in
-      record { from = omega arith; to = omega arith; count = omega arith }
+  chunks-few = cell-few (p .cell) (p .side)
 
   pub chunk-y-in : (m : ℕ) → chunkY c m ≤ c .y + 2
   chunk-y-in m = let two : 0 < 2 = omega arith in omega (arith, mod-lt m two)

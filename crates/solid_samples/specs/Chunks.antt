@@ -2,14 +2,14 @@
 -- layer upward. Chunk m, counted in this order, has the rows chunkY and chunkY + 1 of the layer chunkZ.
 use mathlib.Core.Path.{_≡_}
 use mathlib.Core.Bool.{true}
-use mathlib.Core.List.{List, [], _++_}
+use mathlib.Core.List.{List, [], _∷_, _++_}
 use Prim.Native.Nat.{ℕ, _+_, _-_, _*_, _/_, _%_, _≤_, _<_}
 use lib.Dec.{ltb}
 use lib.IntN.{ℤ}
-use lib.ListN.{getD}
+use lib.ListN.{length, getD}
 use Rattle.rules.specs.Values.{pick}
-use Rattle.rules.specs.Drawings.{Region, alongX, sampleAt}
-use Rattle.lanes.specs.Lanes.{lane}
+use Rattle.rules.specs.Drawings.{Region, alongX, sampleAt, at}
+use Rattle.lanes.specs.Lanes.{laneCount, lane}
 use Rattle.code.specs.Runs.{Evaluated}
 use Rattle.picture.specs.Shapes.{gridIn}
 use Rattle.picture.specs.declared.grid.Grid.{Grid}
@@ -47,3 +47,38 @@ pub record HighRow (grid : Grid) (c : Cell) (y z : ℕ) (b : List ℕ) : Type 0 
 pub record HighChunk (grid : Grid) (c : Cell) (y z : ℕ) (b : List ℕ) : Type 0 where
   pub lower : HighRow grid c y z b
   pub upper : HighRow grid c (y + 1) z b
+
+-- The first four lanes twice, for the columns of both rows of a chunk; and two lanes four times each, for its rows.
+abbrev pub columnsOf : List ℤ → List ℤ
+columnsOf r =
+    lane r 0
+    ∷ (lane r 1
+    ∷ (lane r 2 ∷ (lane r 3 ∷ (lane r 0 ∷ (lane r 1 ∷ (lane r 2 ∷ (lane r 3 ∷ [])))))))
+
+abbrev pub pairOf : List ℤ → ℕ → List ℤ
+pairOf r i =
+    lane r i
+    ∷ (lane r i
+    ∷ (lane r i
+    ∷ (lane r i ∷ (lane r (i + 1) ∷ (lane r (i + 1) ∷ (lane r (i + 1) ∷ (lane r (i + 1) ∷ [])))))))
+
+-- The rows y and y + 1 and the layer z of a chunk, in lanes.
+pub record ChunkLanes (grid : Grid) (c : Cell) (y z : ℕ) (ys zs : List ℤ) : Type 0 where
+  pub lower : (k : ℕ) → k < 4 → y < c .yend → lane ys k ≡ at (grid .yorigin) (grid .ystep) y
+  pub upper : (k : ℕ) → k < 4 → y + 1 < c .yend → lane ys (4 + k) ≡ at (grid .yorigin) (grid .ystep) (y + 1)
+  pub layer : (k : ℕ) → k < laneCount → lane zs k ≡ at (grid .zorigin) (grid .zstep) z
+
+-- Chunk j by its place p among n: wholly hidden, which the place 8 says, or in lanes at that place.
+pub record PlaceOf (grid : Grid) (c : Cell) (b : List ℕ) (ys zs : List (List ℤ)) (n j p : ℕ) : Type 0 where
+  pub hidden : 8 ≤ p → HighChunk grid c (chunkY c j) (chunkZ c j) b
+  pub within : p < 8 → p < n
+  pub lanes : p < 8 → ChunkLanes grid c (chunkY c j) (chunkZ c j) (getD ys p []) (getD zs p [])
+
+-- The chunks before chunk m, n of them at places.
+pub record Listed (grid : Grid) (c : Cell) (b : List ℕ) (ys zs : List (List ℤ)) (places : List ℕ) (m n : ℕ)
+    : Type 0 where
+  pub few : n ≤ m
+  pub rows : length ys ≡ 8
+  pub layers : length zs ≡ 8
+  pub size : length places ≡ 8
+  pub chunks : (j : ℕ) → j < m → PlaceOf grid c b ys zs n j (getD places j 0)

@@ -12,11 +12,25 @@ use Rattle.picture.specs.declared.grid.Grid.{Grid}
 use Rattle.walk.specs.Cells.{Ready, InGrid, CellOk}
 use Rattle.walk.specs.Walks.{Sound}
 use Rattle.walk.specs.declared.cell.Cell.{Cell}
-use Rattle.solid_samples.specs.Chunks.{chunkCount, chunkY, chunkZ, RowValues, ChunkValues, HighChunk}
+use Rattle.axis_lanes.specs.Axes.{LaneSamples}
+use Rattle.solid_samples.specs.Chunks.{chunkCount, chunkY, chunkZ, RowValues, ChunkValues, HighChunk, Listed}
 
 pub record ForRows (grid : Grid) (c : Cell) (b : List ℕ) : Type 0 where
   pub ready : Ready true grid b
   pub cell : CellOk (grid .depth) grid c
+
+-- A chunk of a region of side 4, and all its chunks, with the samples of the axes of its rows and layers.
+pub record ForHidden (grid : Grid) (c : Cell) (z : ℕ) (b : List ℕ) : Type 0 where
+  pub ready : Ready true grid b
+  pub cell : CellOk (grid .depth) grid c
+  pub z-in : z < c .zend
+
+pub record ForList (grid : Grid) (c : Cell) (rs ls : List ℤ) (b : List ℕ) : Type 0 where
+  pub ready : Ready true grid b
+  pub cell : CellOk (grid .depth) grid c
+  pub side : c .side ≡ 4
+  pub rows : LaneSamples (grid .yorigin) (grid .ystep) (c .y) (c .yend) rs
+  pub layers : LaneSamples (grid .zorigin) (grid .zstep) (c .z) (c .zend) ls
 
 -- One sample, with the tape's value there.
 pub record ForLane (ws : List ℕ) (grid : Grid) (x y z : ℕ) (v : ℤ) (b : List ℕ) : Type 0 where

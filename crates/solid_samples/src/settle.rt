@@ -3,6 +3,7 @@
 use crate::chunks::chunk_y;
 use crate::chunks::chunk_z;
 use picture::grid::Grid;
+use sweep::BLOCK;
 use walk::cell::Cell;
 ghost use mathlib.Core.Bool.{true};
 ghost use mathlib.Core.List.{[]};
@@ -94,7 +95,7 @@ fn settle_place(
     z: u32,
     place: usize,
     result: usize,
-    slots: &[[i32; 8]; 1024],
+    slots: &[[i32; 8]; BLOCK],
     picture: &mut [u16],
 ) -> u64
     requires { ⌜ ForPlace (now code) grid parent y z place result (now slots) (now picture) ⌝ }
@@ -115,7 +116,7 @@ pub fn settle_chunks(
     parent: Cell,
     places: [usize; 8],
     result: usize,
-    slots: &[[i32; 8]; 1024],
+    slots: &[[i32; 8]; BLOCK],
     picture: &mut [u16],
 ) -> u64
     requires { ⌜ ForPlaces (now code) grid parent places result (now slots) (now picture) ⌝ }
