@@ -12,8 +12,8 @@ use Rattle.rules.proofs.Words.{read, back}
 use Rattle.lanes.specs.Lanes.{laneCount}
 use Rattle.lanes.proofs.LaneLaws.{Below, none-below, one-more, all-below}
 use Rattle.walk.proofs.CellLaws.{span-words}
-use Rattle.flat_samples.proofs.samples.lane_samples.Statement.{statement}
-use Rattle.flat_samples.proofs.samples.lane_samples.Tie as tie
+use Rattle.axis_lanes.proofs.lane_samples.Statement.{statement}
+use Rattle.axis_lanes.proofs.lane_samples.Tie as tie
 
 abbrev Inv-loop : tie.InvT-loop
 Inv-loop origin step from end r₀ k₀ r k =
