@@ -4,17 +4,18 @@ use mathlib.Core.Logic.{_≢_}
 use mathlib.Core.Bool.{Bool, true, false}
 use mathlib.Core.List.{List, [], _∷_}
 use Prim.Native.Nat.{ℕ, zero, suc, _+_, _-_, _*_, _≤_, _<_}
-use native.Mathlib.Nat.{add-mul}
+use native.Mathlib.Nat.{add-mul, mul-comm, mul-le-mul-right}
 use native.Mathlib.Omega.{arith}
 use lib.Dec.{eqb}
 use lib.IntN.{ℤ}
 use lib.ListN.{length, getD, set, length-set}
 use lib.Seq.{getD-set-same, getD-set-other}
 use borrow.Author.Tests.{eqb-true, eqb-false}
-use Rattle.rules.specs.Drawings.{at, lesser, rowsHigh}
+use Rattle.rules.specs.Drawings.{sizeLimit, at, lesser, rowsHigh}
 use Rattle.rules.proofs.Regions.{lesser-both}
 use Rattle.rules.proofs.Pixels.{rows-high}
 use Rattle.lanes.specs.Lanes.{laneCount, lane}
+use Rattle.picture.specs.Heights.{RowsFit}
 use Rattle.picture.specs.declared.grid.Grid.{Grid}
 use Rattle.walk.specs.declared.cell.Cell.{Cell}
 use Rattle.axis_lanes.specs.Axes.{LaneSamples}
@@ -80,6 +81,11 @@ chunk-lanes grid c rs ls row layer y z ay az fy ty fz tz uz er el =
           ∙ axis-at ay (y + 1) (omega arith) (omega arith) i;
       layer = λ k h. el k h ∙ axis-at az z fz (omega arith) tz;
     }
+
+-- One pixel as a rectangle.
+pub first-fits : (w h x y : ℕ) → w ≤ sizeLimit → x < w → y < h → RowsFit 1 w (y * w + x) 1 (w * h)
+first-fits w h x y n i j =
+    record { narrow = n; last = omega (arith, mul-le-mul-right w j, mul-comm w h) }
 
 -- A chunk without rows; and the test of a chunk's rows.
 pub no-rows : (grid : Grid) (c : Cell) (y z : ℕ) (b : List ℕ) → c .yend ≤ y → HighChunk grid c y z b

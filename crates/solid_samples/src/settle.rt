@@ -29,7 +29,8 @@ fn settle_lane(
 {
     let at = (y * grid.width + x) as usize;
     let height = (z + 1) as u16;
-    if height <= picture[at] {
+    let now = picture[at];
+    if height <= now {
         return 0;
     }
     let count = code.len() as u64;

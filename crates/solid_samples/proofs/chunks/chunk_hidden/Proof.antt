@@ -7,7 +7,7 @@ use Rattle.rules.proofs.Regions.{lesser-most, lesser-both}
 use Rattle.picture.proofs.HeightRows.{region-fits}
 use Rattle.walk.proofs.CellLaws.{small}
 use Rattle.solid_samples.proofs.CellRows.{index-most}
-use Rattle.solid_samples.proofs.ListLaws.{no-rows, high-chunk}
+use Rattle.solid_samples.proofs.ListLaws.{no-rows, high-chunk, first-fits}
 use borrow.Author.Needs.{needs}
 use Rattle.solid_samples.proofs.chunks.chunk_hidden.Statement.{statement}
 use Rattle.solid_samples.proofs.chunks.chunk_hidden.Tie as tie
@@ -76,6 +76,7 @@ cast-top c =
 cast-rows-high : tie.Need-cast-rows-high
 cast-rows-high c = search needs
 
+-- All its pixels lie in the picture, and so does the first; which of them are looked at shows in what is answered.
 rows-high-requires : tie.Need-rows-high-requires
 rows-high-requires c κs =
     let e = ended c in
@@ -86,9 +87,10 @@ rows-high-requires c κs =
     let y = p .cell .ys in
     let m = lesser-most (a .parent .yend) (a .y + 2) in
     let o = lesser-both (a .y) (a .parent .yend) (a .y + 2) (e .before .if1 .left) (omega arith) in
-    rw (p .ready .size)
-    (region-fits _ (a .grid .height) _ _ _ _ (s .width) (omega arith) (omega arith)
-    (omega (arith, e .lesser .ensures, o)) (omega (arith, e .lesser .ensures, m)))
+    let all = region-fits (a .grid .width) (a .grid .height) (a .parent .x) (a .y) (a .parent .xend) (e .lesser .result) (s .width) (omega arith) (omega arith)
+    (omega (arith, e .lesser .ensures, o)) (omega (arith, e .lesser .ensures, m)) in
+    let one = first-fits (a .grid .width) (a .grid .height) (a .parent .x) (a .y) (s .width) (omega (arith, x)) (omega (arith, e .before .if1 .left, y)) in
+    rw (p .ready .size) (search (all, one))
 
 returns-2 : tie.Need-returns-2
 returns-2 c =

@@ -42,11 +42,11 @@ cast-height c =
     let h = p .place .z-in in
     omega arith
 
-mul-if1 : tie.Need-mul-if1
-mul-if1 c = let p = c .before .pre in omega (arith, pixel-most _ _ _ _ (p .place) (p .ready .fault))
+mul-now : tie.Need-mul-now
+mul-now c = let p = c .before .pre in omega (arith, pixel-most _ _ _ _ (p .place) (p .ready .fault))
 
-slice-read-if1 : tie.Need-slice-read-if1
-slice-read-if1 c = let p = at-test c .pre in pixel-in _ _ _ _ (p .place) (p .ready .fault) (p .ready)
+slice-read-now : tie.Need-slice-read-now
+slice-read-now c = let p = at-test c .pre in pixel-in _ _ _ _ (p .place) (p .ready .fault) (p .ready)
 
 returns : tie.Need-returns
 returns c =
@@ -89,8 +89,8 @@ settle-lane-spec =
     cast-at
     add-height
     cast-height
-    mul-if1
-    slice-read-if1
+    mul-now
+    slice-read-now
     returns
     mul-picture
     slice-write-picture

@@ -1,7 +1,7 @@
 -- One row of regions of side 1, if the region has it.
 use mathlib.Core.Bool.{true}
 use mathlib.Core.List.{[]}
-use Prim.Native.Nat.{_-_}
+use Prim.Native.Nat.{_-_, _<_}
 use native.Mathlib.Omega.{arith}
 use borrow.Author.Needs.{sfits-of}
 use Rattle.walk.proofs.CellLaws.{small, child-in}
@@ -39,8 +39,12 @@ called c = c .before .before
 abbrev past : tie.Else2 Inv-loop μ-loop → tie.At-loop Inv-loop μ-loop
 past c = c .before .before
 
+-- The region has the row.
+row-in : (c : tie.At-loop Inv-loop μ-loop) → let a = start c .args in a .y < a .parent .yend
+row-in c = omega (arith, c .before .if1 .left)
+
 returns : tie.Need-returns Inv-loop μ-loop
-returns c = folds-none _ (row-gone _ _ _ (c .if1 .taken))
+returns c = folds-none _ (row-gone _ _ _ (omega (arith, c .if1 .taken, begun (c .before) .pre .z-in)))
 
 loop-holds : tie.Need-loop-holds Inv-loop μ-loop
 loop-holds c =
@@ -79,12 +83,13 @@ settle-lane-requires c κs =
     let t = in-turn c in
     let i = at-test t .loop .inv in
     let p = start (at-test t) .pre in
+    let y = row-in (at-test t) in
     record {
       sound = p .all .sound;
       ready = ready-again (p .all .ready) (i .place .size);
-      place = child-in _ _ _ (p .all .cell) (t .if2 .taken) (at-test t .before .if1 .left) (p .z-in);
+      place = child-in _ _ _ (p .all .cell) (t .if2 .taken) y (p .z-in);
       value = value-word (sfits-of (c .before .value .given))
-          (p .values .here _ (omega (arith, i .place .place)) (t .if2 .taken) (at-test t .before .if1 .left));
+          (p .values .here _ (omega (arith, i .place .place)) (t .if2 .taken) y);
     }
 
 add-count : tie.Need-add-count Inv-loop μ-loop
@@ -115,7 +120,7 @@ same-length c = past c .loop .inv .place .size
 
 returns-2 : tie.Need-returns-2 Inv-loop μ-loop
 returns-2 c =
-    folds-as (row-there _ _ _ (past c .before .if1 .left))
+    folds-as (row-there _ _ _ (row-in (past c)))
     (row-done (past c .loop .inv) (omega arith) (omega arith))
 
 pub settle-row-spec : {M : Type 1} → statement M
