@@ -49,7 +49,6 @@ fn visit_four(
     }
 }
 
-// The slots of the sweeps over samples are made once for all regions of side 4.
 pub fn fours(
     whole: &[u64],
     code: &[u64],
@@ -58,18 +57,20 @@ pub fn fours(
     picture: &mut [u16],
     work: &mut [u8],
     third: &mut [u64],
+    slots: &mut [[i32; 8]; BLOCK],
 ) -> u64
     requires { ⌜ ForFours 16 (now whole) (now code) grid parent (now picture) (now work) (now third) ⌝ }
+    requires { ⌜ length (now slots) ≡ blockRows ⌝ }
     ensures { λ r. ⌜ Folds true (64 * 65) (now (code .entry)) grid below4 (childrenIn parent 4)
         (now (picture .entry)) (now (picture .exit)) r ⌝ }
+    ensures { λ _. ⌜ length (now (slots .exit)) ≡ blockRows ⌝ }
 {
-    let mut slots = [[0i32; 8]; BLOCK];
     let mut count: u64 = 0;
     let end = child_count(parent, 4);
     let mut m = 0;
     while m < end {
         let cell = child(parent, 4, m);
-        count += visit_four(whole, code, grid, cell, picture, work, third, &mut slots);
+        count += visit_four(whole, code, grid, cell, picture, work, third, slots);
         m += 1;
     }
     count

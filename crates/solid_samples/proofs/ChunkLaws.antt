@@ -1,8 +1,8 @@
 -- The samples of a region of side 4 by chunks: the walk's order, heights that only rise, and a chunk that is hidden.
-use mathlib.Core.Path.{_≡_, refl, sym, ap, _∙_}
+use mathlib.Core.Path.{_≡_, refl, ap, _∙_}
 use mathlib.Core.Bool.{Bool, true, false}
 use mathlib.Core.List.{List, [], _∷_, _++_, append-nil, append-assoc}
-use Prim.Native.Nat.{ℕ, zero, suc, _+_, _-_, _*_, _/_, _%_, _≤_, _<_}
+use Prim.Native.Nat.{ℕ, zero, suc, _+_, _-_, _*_, _≤_, _<_}
 use native.Mathlib.Omega.{arith}
 use native.Mathlib.Nat.{add-mul, mod-lt, mul-le-mul-right}
 use lib.Arith.{digits-div, digits-mod}
@@ -12,18 +12,18 @@ use lib.ListN.{length, getD}
 use borrow.Author.Tests.{le-leb, lt-ltb, le-ltb, ltb-true}
 use Rattle.rules.specs.Values.{pick}
 use Rattle.rules.specs.Tapes.{Tape}
-use Rattle.rules.specs.Drawings.{Grid, solid, Region, region, State, state, hidden, fold, visit, filled}
+use Rattle.rules.specs.Drawings.{Grid, Region, region, State, state, hidden, fold, visit}
 use Rattle.rules.specs.Drawings.{alongX, alongY, alongZ}
 use Rattle.rules.proofs.Visit.{visit-hidden, sample-by-case}
 use Rattle.rules.proofs.Pixels.{fill-raised}
 use Rattle.picture.specs.Shapes.{gridIn}
 use Rattle.picture.specs.declared.grid.Grid as declared
 use Rattle.walk.specs.Draws.{Same}
-use Rattle.walk.specs.Cells.{Ready, CellOk, InGrid}
+use Rattle.walk.specs.Cells.{Ready, CellOk}
 use Rattle.walk.specs.Walks.{Sound, Folds}
 use Rattle.walk.specs.declared.cell.Cell.{Cell}
 use Rattle.walk.proofs.Along.{layers-step, layers-end}
-use Rattle.walk.proofs.Draws.{fold-append, fold-none, fold-list, draws-none, draws-same}
+use Rattle.walk.proofs.Draws.{fold-none, fold-list, draws-none, draws-same}
 use Rattle.walk.proofs.Places.{Left, left-from, left-list, left-done}
 use Rattle.walk.proofs.Filling.{hidden-sample}
 use Rattle.walk.proofs.CellLaws.{kind, child-in}

@@ -39,10 +39,6 @@ pub samples-again : {ws : List ℕ} {grid : Grid} {c : Cell} {b₀ b : List ℕ}
     → length b ≡ length b₀ → ForSamples ws grid c b
 samples-again p e = record { sound = p .sound; ready = ready-again (p .ready) e; cell = p .cell; side = p .side }
 
--- A sample's coordinates, handed over as words and taken back.
-pub at-words : {f s : ℤ} (i : ℕ) → SFits w32 f → SFits w32 s → at (read w32 f) (read w32 s) i ≡ at f s i
-at-words {f} {s} i hf hs = rw (toZ-ofZ {w = w32} {z = f} hf, toZ-ofZ {w = w32} {z = s} hs)
-
 -- A lane's value, handed over as a word.
 pub value-word : {ws : List ℕ} {s : Sample} {v : ℤ} → SFits w32 v → Evaluated ws s v → Evaluated ws s (read w32 v)
 value-word {v = v} f e = rw (toZ-ofZ {w = w32} {z = v} f) e

@@ -13,7 +13,7 @@ use Rattle.walk.specs.Cells.{Ready, InGrid, CellOk}
 use Rattle.walk.specs.Walks.{Sound}
 use Rattle.walk.specs.declared.cell.Cell.{Cell}
 use Rattle.axis_lanes.specs.Axes.{LaneSamples}
-use Rattle.solid_samples.specs.Chunks.{chunkCount, chunkY, chunkZ, RowValues, ChunkValues, HighChunk, Listed}
+use Rattle.solid_samples.specs.Chunks.{chunkCount, chunkY, chunkZ, RowValues, ChunkValues, HighChunk}
 
 pub record ForRows (grid : Grid) (c : Cell) (b : List ℕ) : Type 0 where
   pub ready : Ready true grid b

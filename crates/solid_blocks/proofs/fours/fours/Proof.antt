@@ -32,7 +32,7 @@ begun c = c .before .before .before .before .before
 abbrev start : tie.At-loop Inv-loop μ-loop → tie.Start Inv-loop μ-loop
 start c = begun (c .before .before)
 
-abbrev in-turn : tie.After-slots Inv-loop μ-loop → tie.After-child Inv-loop μ-loop
+abbrev in-turn : tie.After-visit-four-arg4 Inv-loop μ-loop → tie.After-child Inv-loop μ-loop
 in-turn c = c .before .before .before .before
 
 abbrev called : tie.After-slice-known6 Inv-loop μ-loop → tie.After-visit-four Inv-loop μ-loop
@@ -41,12 +41,12 @@ called c = c .before .before .before .before .before .before
 -- What is known at them.
 parent : (c : tie.Start Inv-loop μ-loop) → Parent (c .args .parent) 4
 parent c =
-    let p = c .pre in
+    let p = c .pre .0 in
     parent-of 4 4 (ready-small (p .ready)) (p .cell) (omega arith) (omega arith) (p .side)
 
 few : (c : tie.Start Inv-loop μ-loop) → length (childrenIn (c .args .parent) 4) ≤ 64
 few c =
-    let p = c .pre in
+    let p = c .pre .0 in
     children-few true _ _ 4 4 (omega arith) (omega arith) (p .side) (p .ready .fault) (p .cell)
 
 more : (c : tie.In-loop Inv-loop μ-loop)
@@ -61,7 +61,7 @@ loop-holds c = (
   child-begins _,
   refl,
   refl,
-  refl,
+  begun (c .before) .pre .1,
 )
 
 child-requires : tie.Need-child-requires Inv-loop μ-loop
@@ -72,7 +72,7 @@ visit-four-requires c κs =
     let t = in-turn c in
     let k = t .child .ensures in
     let i = t .before .before .loop .inv in
-    let p = start (t .before .before) .pre in (
+    let p = start (t .before .before) .pre .0 in (
       record {
         level = p .level;
         ready = ready-again (p .ready) (i .0 .size);
@@ -91,7 +91,7 @@ add-count c =
     let l = t .before .before in
     let s = start l in
     let sum = child-sum (l .loop .inv .0) 64 (more (t .before)) (few s) (u .visit-four .ensures .0 .bound) in
-    omega (arith, sound-length (s .pre .level .sound), sum)
+    omega (arith, sound-length (s .pre .0 .level .sound), sum)
 
 add-m : tie.Need-add-m Inv-loop μ-loop
 add-m c =
@@ -125,8 +125,10 @@ same-length-3 c = c .before .loop .inv .2
 returns : tie.Need-returns Inv-loop μ-loop
 returns c =
     let e = c .before .before .child-count .ensures in
-    child-done (c .before .loop .inv .0) 64 (64 * 65) (omega (arith, c .loop-test .left)) (few (start (c .before)))
-    (omega arith)
+    let i = c .before .loop .inv in (
+      child-done (i .0) 64 (64 * 65) (omega (arith, c .loop-test .left)) (few (start (c .before))) (omega arith),
+      i .3,
+    )
 
 pub fours-spec : {M : Type 1} → statement M
 fours-spec =

@@ -1,7 +1,7 @@
 -- No row, or the rows of the chunk that the region has.
 use mathlib.Core.Path.{sym, _∙_}
 use mathlib.Core.Bool.{true}
-use Prim.Native.Nat.{_+_, _*_, _≤_, _<_}
+use Prim.Native.Nat.{_+_, _*_, _<_}
 use native.Mathlib.Omega.{arith}
 use Rattle.rules.proofs.Regions.{lesser-most, lesser-both}
 use Rattle.picture.proofs.HeightRows.{region-fits}
