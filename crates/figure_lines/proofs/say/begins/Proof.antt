@@ -6,8 +6,8 @@ use native.Mathlib.Omega.{arith}
 use lib.ListN.{length, take, length-take}
 use lib.Seq.{length-take-le}
 use borrow.Author.Needs.{needs}
-use Rattle.figures.proofs.say.begins.Statement.{statement}
-use Rattle.figures.proofs.say.begins.Tie as tie
+use Rattle.figure_lines.proofs.say.begins.Statement.{statement}
+use Rattle.figure_lines.proofs.say.begins.Tie as tie
 
 -- A file that is shorter than the head does not begin with it.
 too-short : (file head : List ℕ) → take (length head) file ≡ head → length file < length head → ⊥

@@ -4,8 +4,8 @@ use borrow.Author.Needs.{needs}
 use lib.IntN.{pos}
 use lib.ListN.{length, set, length-replicate, length-set}
 use Prim.Native.Nat.{_+_, _-_, _*_}
-use Rattle.figures.proofs.given.lettered_list.Statement.{statement}
-use Rattle.figures.proofs.given.lettered_list.Tie as tie
+use Rattle.figure_lines.proofs.given.lettered_list.Statement.{statement}
+use Rattle.figure_lines.proofs.given.lettered_list.Tie as tie
 
 abbrev Inv-loop : tie.InvT-loop
 Inv-loop list₀ i₀ list i = length list ≡ 5515

@@ -2,8 +2,8 @@
 use borrow.Author.Needs.{needs}
 use Prim.Native.Nat.{_≤_, _-_}
 use lib.ListN.{length}
-use Rattle.figures.proofs.say.bytes.Statement.{statement}
-use Rattle.figures.proofs.say.bytes.Tie as tie
+use Rattle.figure_lines.proofs.say.bytes.Statement.{statement}
+use Rattle.figure_lines.proofs.say.bytes.Tie as tie
 
 abbrev Inv-loop : tie.InvT-loop
 Inv-loop s i₀ i = i ≤ length s
