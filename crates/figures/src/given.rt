@@ -1,6 +1,7 @@
 // What the calls are lent. The contract of an array tells its length alone, so that no proof meets its elements.
 use layers::WORK_LIMIT;
 use picture::grid::Grid;
+use rectangle::Rectangle;
 ghost use mathlib.Core.Path.{_≡_};
 ghost use lib.ListN.{length};
 ghost use Rattle.rules.specs.Drawings.{workLimit};
@@ -135,4 +136,20 @@ pub fn long_room() -> [u8; 10258]
     ensures { λ r. ⌜ 10258 ≡ length r ⌝ }
 {
     [255; 10258]
+}
+
+// A rectangle of tiles, and a table of verdicts that is not clear.
+pub fn rectangle(column: u32, row: u32, columns: u32, rows: u32) -> Rectangle {
+    Rectangle {
+        column: column,
+        row: row,
+        columns: columns,
+        rows: rows,
+    }
+}
+
+pub fn table() -> [u8; 163936]
+    ensures { λ r. ⌜ 163936 ≡ length r ⌝ }
+{
+    [255; 163936]
 }

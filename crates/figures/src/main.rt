@@ -1,12 +1,13 @@
 // The figures of the scope paper that are run, by the public calls: tapes, both files, and the limits; and the drawn
-// figures of tapes of edition 02, of two tapes into one, of tiles in both orders and of a plate. Number, place and count
-// of each call are written.
+// figures of tapes of edition 02, of two tapes into one, of tiles in both orders, of a plate and of a shared table of
+// verdicts. Number, place and count of each call are written.
 mod files;
 mod given;
 mod limits;
 mod orders;
 mod plates;
 mod say;
+mod tables;
 mod tapes;
 
 fn main() {
@@ -21,6 +22,8 @@ fn main() {
     orders::both_orders();
     plates::come_and_go();
     plates::other_bytes();
+    tables::two_users();
+    tables::disc();
     limits::most_clauses();
     limits::too_many_clauses();
     limits::sizes();
