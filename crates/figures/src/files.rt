@@ -1,6 +1,6 @@
 // Both drawn figures, by tiles and in full, and their files.
-use crate::given;
-use crate::say;
+use figure_lines::given;
+use figure_lines::say;
 use layers::draw_flat;
 use layers::draw_solid;
 use layers::tile_flat;

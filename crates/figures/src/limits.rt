@@ -1,6 +1,6 @@
 // The limits: the last that passes, and the first that does not.
-use crate::given;
-use crate::say;
+use figure_lines::given;
+use figure_lines::say;
 use layers::pack_tape;
 use layers::tile_flat;
 use layers::tile_solid;

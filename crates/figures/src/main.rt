@@ -1,12 +1,9 @@
 // The figures of the scope paper that are run, by the public calls: tapes, both files, and the limits; and the drawn
-// figures of tapes of edition 02, of two tapes into one, of tiles in both orders and of a plate. Number, place and count
-// of each call are written.
+// figures of tapes of edition 02, of two tapes into one, and of tiles in both orders. Number, place and count of each
+// call are written.
 mod files;
-mod given;
 mod limits;
 mod orders;
-mod plates;
-mod say;
 mod tapes;
 
 fn main() {
@@ -19,7 +16,6 @@ fn main() {
     files::solid();
     files::solid_in_full();
     orders::both_orders();
-    plates::one_plate();
     limits::most_clauses();
     limits::too_many_clauses();
     limits::sizes();

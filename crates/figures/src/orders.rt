@@ -1,7 +1,7 @@
 // Two 64-tiles, one above the other, in both orders: z less 100, on a grid of 1 by 1 and depth 128. And lists that are no
 // orders.
-use crate::given;
-use crate::say;
+use figure_lines::given;
+use figure_lines::say;
 use layers::pack_tape;
 use layers::tile_solid_in_order;
 

@@ -1,6 +1,6 @@
 // Packing and unpacking, a tape of edition 02 drawn, and two tapes into one.
-use crate::given;
-use crate::say;
+use figure_lines::given;
+use figure_lines::say;
 use layers::merge_tapes;
 use layers::pack_tape;
 use layers::tile_flat;

@@ -37,22 +37,8 @@ pub fn roots(low: i32, high: i32) -> Ends
     }
 }
 
-// The same for more roots at once: each one's shift, and the root with its shift at hand.
-pub fn shift_of(a: i32) -> u32
-    ensures { λ h. ⌜ h < 16 ⌝ }
-{
-    half_shift(positive_part(a))
-}
-
-pub fn root_with(a: i32, half: u32) -> i32
-    requires { ⌜ half < 16 ⌝ }
-    ensures { λ r. ⌜ r ≡ rootOf a ⌝ }
-{
-    root_by(positive_part(a), half)
-}
-
 // A negative value's root is that of 0.
-fn positive_part(a: i32) -> u32
+pub fn positive_part(a: i32) -> u32
     ensures { λ m. ⌜ (m ≤ 2147483647) × (rootOf (pos m) ≡ rootOf a) ⌝ }
 {
     if a < 0 { 0 } else { a as u32 }

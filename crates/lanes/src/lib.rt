@@ -1,9 +1,14 @@
 // Eight values side by side, the lanes, and each operation on all of them. Lanes come and go as arrays by value, which
 // the compiler takes several at once; of two references it does not assume that they differ.
+mod squares;
+
+use crate::squares::clipped;
+use crate::squares::low_squares;
+use crate::squares::sizes;
 use fixed::value;
 ghost use lib.IntN.{negℤ};
 ghost use Rattle.rules.specs.Values.{sum, difference, product, smaller, larger, quotient, absolute, square, rootOf};
-ghost use Rattle.lanes.specs.Lanes.{All, Shifts, One, OneOfValues, Two};
+ghost use Rattle.lanes.specs.Lanes.{All, One, OneOfValues, Two};
 
 // The same value in every lane.
 pub fn splat(v: i32) -> [i32; 8]
@@ -41,39 +46,14 @@ pub fn absolute(a: [i32; 8]) -> [i32; 8]
 pub fn square(a: [i32; 8]) -> [i32; 8]
     ensures { λ r. ⌜ One square a r ⌝ }
 {
-    let mut r = [0i32; 8];
-    let mut k = 0;
-    while k < 8 {
-        r[k] = value::square(a[k]);
-        k += 1;
-    }
-    r
-}
-
-// The shifts of all roots come first: counting zeros waits for the register that it writes.
-fn shifts(a: [i32; 8]) -> [u32; 8]
-    ensures { λ r. ⌜ Shifts r ⌝ }
-{
-    let mut r = [0u32; 8];
-    let mut k = 0;
-    while k < 8 {
-        r[k] = isqrt::shift_of(a[k]);
-        k += 1;
-    }
-    r
+    let n = sizes(a);
+    clipped(n, low_squares(n))
 }
 
 pub fn root(a: [i32; 8]) -> [i32; 8]
     ensures { λ r. ⌜ One rootOf a r ⌝ }
 {
-    let half = shifts(a);
-    let mut r = [0i32; 8];
-    let mut k = 0;
-    while k < 8 {
-        r[k] = isqrt::root_with(a[k], half[k]);
-        k += 1;
-    }
-    r
+    roots::roots8(a)
 }
 
 pub fn add(a: [i32; 8], b: [i32; 8]) -> [i32; 8]

@@ -5,7 +5,7 @@ use mathlib.Core.List.{List}
 use Prim.Native.Nat.{ℕ, _*_, _<_}
 use lib.IntN.{ℤ}
 use lib.ListN.{length, replicate}
-use Rattle.rules.specs.Tapes.{slotLimit}
+use Rattle.sweep.specs.Chunks.{blockRows}
 use Rattle.rules.specs.Drawings.{gridFault}
 use Rattle.rules.specs.Pictures.{picture}
 use Rattle.code.specs.Words.{tapeIn}
@@ -43,7 +43,7 @@ pub record ForRect (whole : List ℕ) (grid : Grid) (q : Rectangle) (table b wor
 pub record ForTiles (whole : List ℕ) (grid : Grid) (q : Rectangle) (table b work first second : List ℕ)
     (slots : List (List ℤ)) : Type 0 where
   pub rect : ForRect whole grid q table b work first second
-  pub size : length slots ≡ slotLimit
+  pub size : length slots ≡ blockRows
 
 pub record TilesShared (whole : List ℕ) (grid : Grid) (q : Rectangle) (table table′ b b′ : List ℕ) (c : ℕ) : Type 0 where
   pub shares : (n : ℕ) → Passed n whole table

@@ -2,7 +2,7 @@
 use picture::grid::Grid;
 use rectangle::Rectangle;
 use rectangle::tiles_along;
-use tape::SLOT_LIMIT;
+use sweep::BLOCK;
 use verdict_tiles::tile::table_tile;
 ghost use mathlib.Core.Path.{_≡_};
 ghost use mathlib.Core.Bool.{false};
@@ -31,7 +31,7 @@ fn table_tiles(
     work: &mut [u8],
     first: &mut [u64],
     second: &mut [u64],
-    slots: &mut [[i32; 8]; SLOT_LIMIT],
+    slots: &mut [[i32; 8]; BLOCK],
 ) -> u64
     requires { ⌜ ForTiles (now whole) grid rectangle (now table) (now picture) (now work) (now first) (now second)
         (now slots) ⌝ }
@@ -73,7 +73,7 @@ pub fn rectangle_tiles(
     ensures { λ r. ⌜ TilesShared (now (whole .entry)) grid rectangle (now (table .entry)) (now (table .exit))
         (now (picture .entry)) (now (picture .exit)) r ⌝ }
 {
-    let mut slots = [[0i32; 8]; SLOT_LIMIT];
+    let mut slots = [[0i32; 8]; BLOCK];
     table_tiles(
         whole,
         grid,

@@ -6,7 +6,7 @@ use mathlib.Core.List.{List}
 use Prim.Native.Nat.{ℕ, _+_, _*_, _/_, _%_, _≤_, _<_}
 use lib.IntN.{ℤ}
 use lib.ListN.{length}
-use Rattle.rules.specs.Tapes.{slotLimit}
+use Rattle.sweep.specs.Chunks.{blockRows}
 use Rattle.rules.specs.Drawings.{State, flatBound}
 use Rattle.rules.specs.Accepted.{Accepted}
 use Rattle.code.specs.Words.{tapeIn}
@@ -57,7 +57,7 @@ pub record ForShared (whole : List ℕ) (grid : Grid) (i : ℕ) (table picture w
   pub tile : ForTile grid i
   pub passes : Passes whole table
   pub blank : TileBlank grid i picture
-  pub size : length slots ≡ slotLimit
+  pub size : length slots ≡ blockRows
 
 -- The same of a tile that is known.
 pub record ForKnown (whole : List ℕ) (grid : Grid) (i : ℕ) (table picture work first second : List ℕ)

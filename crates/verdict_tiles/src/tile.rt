@@ -3,13 +3,13 @@ use flat_eights::eights::eights;
 use flat_eights::look::fill;
 use picture::grid::Grid;
 use plate_tiles::tiles::tile;
-use tape::SLOT_LIMIT;
+use sweep::BLOCK;
 use verdict_entries::entry::entry_at;
 use verdict_entries::judged::meet;
 use verdict_entries::kept::kept_words;
 ghost use mathlib.Core.Path.{_≡_};
 ghost use lib.ListN.{length};
-ghost use Rattle.rules.specs.Tapes.{slotLimit};
+ghost use Rattle.sweep.specs.Chunks.{blockRows};
 ghost use Rattle.verdict_tiles.specs.Shares.{ForKnown, ForShared, KnownDrawn, TileShared, TileApart};
 
 // A known tile, with no run of the region of side 64: full, empty, or the kept tape on the regions of side 8.
@@ -22,13 +22,13 @@ fn known_tile(
     work: &mut [u8],
     first: &mut [u64],
     second: &mut [u64],
-    slots: &mut [[i32; 8]; SLOT_LIMIT],
+    slots: &mut [[i32; 8]; BLOCK],
 ) -> u64
     requires { ⌜ ForKnown (now whole) grid number (now table) (now picture) (now work) (now first) (now second)
         (now slots) ⌝ }
     ensures { λ r. ⌜ KnownDrawn (now (whole .entry)) grid number (now (table .entry))
         (now (picture .entry)) (now (picture .exit)) r ⌝ }
-    ensures { λ _. ⌜ length (now (slots .exit)) ≡ slotLimit ⌝ }
+    ensures { λ _. ⌜ length (now (slots .exit)) ≡ blockRows ⌝ }
     ensures { λ _. ⌜ TileApart grid number (now (picture .entry)) (now (picture .exit)) ⌝ }
 {
     let cell = tile(grid, number);
@@ -56,13 +56,13 @@ pub fn table_tile(
     work: &mut [u8],
     first: &mut [u64],
     second: &mut [u64],
-    slots: &mut [[i32; 8]; SLOT_LIMIT],
+    slots: &mut [[i32; 8]; BLOCK],
 ) -> u64
     requires { ⌜ ForShared (now whole) grid number (now table) (now picture) (now work) (now first) (now second)
         (now slots) ⌝ }
     ensures { λ r. ⌜ TileShared (now (whole .entry)) grid number (now (table .entry)) (now (table .exit))
         (now (picture .entry)) (now (picture .exit)) r ⌝ }
-    ensures { λ _. ⌜ length (now (slots .exit)) ≡ slotLimit ⌝ }
+    ensures { λ _. ⌜ length (now (slots .exit)) ≡ blockRows ⌝ }
     ensures { λ _. ⌜ TileApart grid number (now (picture .entry)) (now (picture .exit)) ⌝ }
 {
     let own = meet(whole, grid, number, table, work, first);

@@ -34,7 +34,8 @@ fn same(part: &Part, kind: Kind, grid: Grid) {
 
 #[test]
 fn on_every_part() {
-    let sizes = [[1, 1, 1], [7, 9, 3], [64, 64, 64], [65, 63, 17], [100, 70, 130], [129, 8, 66]];
+    // whole regions, and those that an edge cuts off by every number of rows, columns and layers
+    let sizes = [[1, 1, 1], [7, 9, 3], [64, 64, 64], [65, 63, 17], [66, 67, 5], [100, 70, 130], [129, 8, 66]];
     for part in parts::all() {
         for sizes in sizes {
             same(&part, Kind::Flat, resized(part.flat, sizes));

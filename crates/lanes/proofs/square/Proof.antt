@@ -1,74 +1,27 @@
--- `lanes::square`: lane by lane.
-use mathlib.Core.Path.{_≡_, refl}
+-- `lanes::square`: by sizes.
+use mathlib.Core.Path.{ap, _∙_}
+use borrow.Author.Needs.{needs}
 use lib.IntN.{pos}
-use borrow.Author.Needs.{needs, sfits-of}
-use native.Mathlib.Omega.{arith}
-use mir.Syntax.{w32}
-use mir.Facts.{toZ-ofZ}
-use Prim.Native.Nat.{_-_, _≤_}
-use Rattle.rules.specs.Values.{square}
-use Rattle.fixed.proofs.Words.{back-one}
-use Rattle.lanes.specs.Lanes.{laneCount, lane}
-use Rattle.lanes.proofs.LaneLaws.{Below, none-below, one-more, all-below}
+use Rattle.lanes.specs.Squares.{clippedSquare}
+use Rattle.lanes.proofs.SquareLaws.{by-size}
 use Rattle.lanes.proofs.square.Statement.{statement}
 use Rattle.lanes.proofs.square.Tie as tie
 
-abbrev Inv-loop : tie.InvT-loop
-Inv-loop a r₀ k₀ r k = (k ≤ laneCount) × Below (pos 0) (λ j v. v ≡ square (lane a j)) r k
+sizes-requires : tie.Need-sizes-requires
+sizes-requires c κs = search needs
 
-abbrev μ-loop : tie.MeasureT-loop
-μ-loop a r₀ k₀ r k = laneCount - k
+low-squares-requires : tie.Need-low-squares-requires
+low-squares-requires c κs = search needs
 
-loop-holds : tie.Need-loop-holds Inv-loop μ-loop
-loop-holds c = (omega arith, none-below _ _ _ refl)
+clipped-requires : tie.Need-clipped-requires
+clipped-requires c κs = search needs
 
-mul-square : tie.Need-mul-square Inv-loop μ-loop
-mul-square c = search needs
-
-array-copy-out-square : tie.Need-array-copy-out-square Inv-loop μ-loop
-array-copy-out-square c = search needs
-
-square-requires : tie.Need-square-requires Inv-loop μ-loop
-square-requires c κs = search needs
-
-mul-r : tie.Need-mul-r Inv-loop μ-loop
-mul-r c = search needs
-
-array-set-from-r : tie.Need-array-set-from-r Inv-loop μ-loop
-array-set-from-r c = search needs
-
-add-k : tie.Need-add-k Inv-loop μ-loop
-add-k c = search needs
-
-loop-less : tie.Need-loop-less Inv-loop μ-loop
-loop-less c = search needs
-
-loop-again : tie.Need-loop-again Inv-loop μ-loop
-loop-again c =
-    let x = c .before in
-    let l = x .before .before .loop in
-    let v = c .square in (
-      omega arith,
-      one-more _ _ (l .r) (l .k) _ (x .before .loop-test .taken) (l .inv .1)
-          (back-one w32 square (v .result) (v .ok) (v .ensures) (toZ-ofZ (sfits-of (x .square-arg .given)))),
-    )
-
-returns : tie.Need-returns Inv-loop μ-loop
-returns c = record { at = all-below _ _ _ _ (c .loop-test .left) (c .before .loop .inv .1) }
+returns : tie.Need-returns
+returns c =
+    record {
+      at = λ k h.
+          c .clipped .ensures .at k h ∙ ap (λ n. pos (clippedSquare n)) (c .before .before .sizes .ensures .at k h) ∙ by-size _;
+    }
 
 pub square-spec : {M : Type 1} → statement M
-square-spec =
-    tie.close
-    (tie.spec
-    Inv-loop
-    μ-loop
-    loop-holds
-    mul-square
-    array-copy-out-square
-    square-requires
-    mul-r
-    array-set-from-r
-    add-k
-    loop-less
-    loop-again
-    returns)
+square-spec = tie.close (tie.spec sizes-requires low-squares-requires clipped-requires returns)

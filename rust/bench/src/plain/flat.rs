@@ -1,7 +1,7 @@
 //! The flat drawing by tiles.
 
 use super::arith::Span;
-use super::lanes::{Lanes, run_row};
+use super::lanes::{Block, CHUNKS, Samples, run_chunks};
 use super::run::{Slots, run_ranges};
 use super::shorten::shorten;
 use super::word::words;
@@ -27,7 +27,8 @@ fn walked(tape: &[u8], grid: Grid, picture: &mut [u8], cut: impl FnMut(u32, usiz
     let code = words(tape);
     let row = (grid.width as usize).div_ceil(8);
     let choices = &mut vec![0; code.len()][..];
-    let mut walk = Walk { grid, row, picture, cut, choices, ranges: Slots::new(), values: [[0; 8]; SLOTS], count: 0 };
+    let mut walk =
+        Walk { grid, row, picture, cut, choices, ranges: Slots::new(), values: [[[0; 8]; CHUNKS]; SLOTS], count: 0 };
     let all = Region { x: 0, xend: grid.width, y: 0, yend: grid.height };
     walk.visit_children(&code, all, 64, &mut [vec![0; code.len()], vec![0; code.len()]]);
     walk.count
@@ -50,7 +51,7 @@ struct Walk<'a, F> {
     cut: F,
     choices: &'a mut Choices,
     ranges: Slots,
-    values: [Lanes; SLOTS],
+    values: [Block; SLOTS],
     count: u64,
 }
 
@@ -90,14 +91,17 @@ impl<F: FnMut(u32, usize)> Walk<'_, F> {
         ]
     }
 
-    /// A region of side 8 is one byte in each row of the picture. Lanes past the grid's edge run on the last sample.
+    /// A region of side 8 is one byte in each row of the picture, and each row a chunk. Lanes and chunks past the grid's
+    /// edge run on the last sample.
     fn visit_samples(&mut self, code: &[u64], region: Region) {
         let grid = self.grid;
         let width = (region.xend - region.x) as usize;
-        let last = region.xend - 1;
-        let xs = std::array::from_fn(|k| sample(grid.xorigin, grid.xstep, last.min(region.x + k as u32)));
-        for y in region.y..region.yend {
-            let row = run_row(code, xs, sample(grid.yorigin, grid.ystep, y), grid.zorigin, &mut self.values);
+        let (xlast, ylast) = (region.xend - 1, region.yend - 1);
+        let xs = std::array::from_fn(|k| sample(grid.xorigin, grid.xstep, xlast.min(region.x + k as u32)));
+        let ys = std::array::from_fn(|k| [sample(grid.yorigin, grid.ystep, ylast.min(region.y + k as u32)); 8]);
+        let at = Samples { xs, ys, zs: [[grid.zorigin; 8]; CHUNKS] };
+        let result = run_chunks(code, &at, CHUNKS, &mut self.values);
+        for (y, row) in (region.y..region.yend).zip(&self.values[result]) {
             let byte = (0..width).fold(0, |byte, k| byte | ((row[k] < 0) as u8) << (7 - k));
             self.picture[y as usize * self.row + region.x as usize / 8] = byte;
         }

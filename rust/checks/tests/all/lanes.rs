@@ -1,5 +1,5 @@
-//! The lanes of a row run several at once: the archive has the machine's operations on four numbers side by side. The
-//! compiler makes them of the lanes or does not, and says nothing.
+//! The lanes run several at once: the archive has the machine's operations on four numbers side by side, and for squares and
+//! roots those on two of twice the width. The compiler makes them of the lanes or does not, and says nothing.
 
 use std::path::{Path, PathBuf};
 
@@ -18,10 +18,14 @@ fn count(code: &[u8], operation: u8) -> usize {
     plain + later.count()
 }
 
+/// Sums, differences and comparisons of four lanes, products and quotients of two.
+const OPERATIONS: [(&str, u8); 5] =
+    [("paddd", 0xFE), ("psubd", 0xFA), ("pcmpgtd", 0x66), ("pmuludq", 0xF4), ("divpd", 0x5E)];
+
 #[test]
-fn sums_differences_and_comparisons_are_of_four_lanes() {
+fn lanes_run_several_at_once() {
     let code = archive();
-    for (name, operation) in [("paddd", 0xFE), ("psubd", 0xFA), ("pcmpgtd", 0x66)] {
+    for (name, operation) in OPERATIONS {
         assert!(count(&code, operation) > 0, "no {name} in the archive: its lanes run one by one");
     }
 }

@@ -4,6 +4,7 @@ use mathlib.Core.Bool.{true}
 use Prim.Native.Nat.{_-_, _*_, _≤_, _<_}
 use native.Mathlib.Omega.{arith}
 use lib.ListN.{length}
+use Rattle.sweep.specs.Chunks.{blockRows}
 use Rattle.walk.proofs.CellLaws.{ready-small}
 use Rattle.walk.proofs.LookLaws.{sound-length}
 use Rattle.walk.proofs.Places.{ready-again}
@@ -15,14 +16,15 @@ use Rattle.solid_blocks.proofs.sixteens.sixteens.Statement.{statement}
 use Rattle.solid_blocks.proofs.sixteens.sixteens.Tie as tie
 
 abbrev Inv-loop : tie.InvT-loop
-Inv-loop whole code grid parent picture₀ work₀ second₀ third₀ count₀ end m₀ picture work second third count m =
+Inv-loop whole code grid parent picture₀ work₀ second₀ third₀ slots₀ count₀ end m₀ picture work second third slots count m =
     AtChild true 16 4161 code grid below16 parent picture₀ picture count m
     × (length work ≡ length work₀)
     × (length second ≡ length second₀)
     × (length third ≡ length third₀)
+    × (length slots ≡ blockRows)
 
 abbrev μ-loop : tie.MeasureT-loop
-μ-loop whole code grid parent picture₀ work₀ second₀ third₀ count₀ end m₀ picture work second third count m = end - m
+μ-loop whole code grid parent picture₀ work₀ second₀ third₀ slots₀ count₀ end m₀ picture work second third slots count m = end - m
 
 -- The places: the start; in a turn before the child's call, after it, and past the loop.
 abbrev begun : tie.After-slice-known4 Inv-loop μ-loop → tie.Start Inv-loop μ-loop
@@ -31,8 +33,8 @@ begun c = c .before .before .before .before .before .before
 abbrev start : tie.At-loop Inv-loop μ-loop → tie.Start Inv-loop μ-loop
 start c = begun (c .before .before)
 
-abbrev in-turn : tie.After-visit-sixteen-arg4 Inv-loop μ-loop → tie.After-child Inv-loop μ-loop
-in-turn c = c .before .before .before .before
+abbrev in-turn : tie.After-slots Inv-loop μ-loop → tie.After-child Inv-loop μ-loop
+in-turn c = c .before .before .before .before .before
 
 abbrev called : tie.After-slice-known8 Inv-loop μ-loop → tie.After-visit-sixteen Inv-loop μ-loop
 called c = c .before .before .before .before .before .before .before .before
@@ -61,6 +63,7 @@ loop-holds c = (
   refl,
   refl,
   refl,
+  refl,
 )
 
 child-requires : tie.Need-child-requires Inv-loop μ-loop
@@ -71,16 +74,18 @@ visit-sixteen-requires c κs =
     let t = in-turn c in
     let k = t .child .ensures in
     let i = t .before .before .loop .inv in
-    let p = start (t .before .before) .pre in
-    record {
-      level = p .level;
-      ready = ready-again (p .ready) (i .0 .size);
-      cell = k .ok _ _ (p .cell);
-      side = k .side;
-      room = omega (arith, p .room, i .1);
-      second = omega (arith, p .second, i .2);
-      third = omega (arith, p .third, i .3);
-    }
+    let p = start (t .before .before) .pre in (
+      record {
+        level = p .level;
+        ready = ready-again (p .ready) (i .0 .size);
+        cell = k .ok _ _ (p .cell);
+        side = k .side;
+        room = omega (arith, p .room, i .1);
+        second = omega (arith, p .second, i .2);
+        third = omega (arith, p .third, i .3);
+      },
+      i .4,
+    )
 
 add-count : tie.Need-add-count Inv-loop μ-loop
 add-count c =
@@ -88,7 +93,7 @@ add-count c =
     let t = in-turn (u .before) in
     let l = t .before .before in
     let s = start l in
-    let sum = child-sum (l .loop .inv .0) 64 (more (t .before)) (few s) (u .visit-sixteen .ensures .bound) in
+    let sum = child-sum (l .loop .inv .0) 64 (more (t .before)) (few s) (u .visit-sixteen .ensures .0 .bound) in
     omega (arith, sound-length (s .pre .level .sound), sum)
 
 add-m : tie.Need-add-m Inv-loop μ-loop
@@ -105,10 +110,11 @@ loop-again c =
     let t = in-turn (called c .before) in
     let i = t .before .before .loop .inv in
     let kept = v .kept .1 .1 .1 .1 in (
-      child-again (i .0) (t .child .ensures) (more (t .before)) (v .ensures) (kept .0),
+      child-again (i .0) (t .child .ensures) (more (t .before)) (v .ensures .0) (kept .0),
       kept .1 .0 ∙ i .1,
       kept .1 .1 .0 ∙ i .2,
       kept .1 .1 .1 .0 ∙ i .3,
+      v .ensures .1,
     )
 
 same-length : tie.Need-same-length Inv-loop μ-loop

@@ -24,8 +24,8 @@ start c = begun (c .before .before .before .before .before)
 abbrev looked : tie.After-known-told2 → tie.After-look
 looked c = c .before .before .before .before .before .before .before .before .before
 
-abbrev in-cut : tie.After-fours-arg3 → tie.After-known-told2
-in-cut c = c .before .before .before .before .before
+abbrev in-cut : tie.After-fours-arg4 → tie.After-known-told2
+in-cut c = c .before .before .before .before .before .before
 
 abbrev visited : tie.After-slice-known10 → tie.After-fours
 visited c = c .before .before .before .before .before .before
@@ -46,16 +46,16 @@ opened : (c : tie.After-known-told2)
 opened c = open-of true _ _ _ _ _ _ _ _ _ (looked c .look .ensures) (c .before .seen2 .given .1)
 
 mark-room-requires : tie.Need-mark-room-requires
-mark-room-requires c κs = begun c .pre .level .kept .kept .within
+mark-room-requires c κs = begun c .pre .0 .level .kept .kept .within
 
 add-base : tie.Need-add-base
 add-base c =
-    let w = begun (c .before) .pre .level .kept .kept .within in
+    let w = begun (c .before) .pre .0 .level .kept .kept .within in
     omega (arith, c .mark-room .ensures)
 
 look-requires : tie.Need-look-requires
 look-requires c κs =
-    let p = begun (made-room c .before) .pre in
+    let p = begun (made-room c .before) .pre .0 in
     let m = made-room c .mark-room .ensures in
     record {
       level = p .level;
@@ -92,24 +92,26 @@ fours-requires : tie.Need-fours-requires
 fours-requires c κs =
     let t = in-cut c in
     let j = looked t in
-    let p = start j .pre in
+    let p = start j .pre .0 in
     let kept = j .look .kept .1 .1 .1 .1 in
-    let short = open-level (p .level) (opened t) in
-    record {
-      level = search (short, p .level);
-      ready = ready-again (p .ready) (kept .0);
-      cell = p .cell;
-      side = p .side;
-      room = omega (arith, p .room, kept .1 .0);
-      third = p .third;
-    }
+    let short = open-level (p .level) (opened t) in (
+      record {
+        level = search (short, p .level);
+        ready = ready-again (p .ready) (kept .0);
+        cell = p .cell;
+        side = p .side;
+        room = omega (arith, p .room, kept .1 .0);
+        third = p .third;
+      },
+      start j .pre .1,
+    )
 
 add-result : tie.Need-add-result
 add-result c =
     let u = visited c in
     let t = in-cut (u .before) in
-    let s = start (looked t) .pre .level .sound in
-    omega (arith, sound-length s, open-fewer s (opened t), u .fours .ensures .bound)
+    let s = start (looked t) .pre .0 .level .sound in
+    omega (arith, sound-length s, open-fewer s (opened t), u .fours .ensures .0 .bound)
 
 same-length : tie.Need-same-length
 same-length c = search needs
@@ -122,9 +124,11 @@ same-length-3 c = search needs
 
 returns : tie.Need-returns
 returns c =
-    let j = done c in
-    done-visits 4161 4 below4 refl (omega arith)
-    (done-of true _ _ _ _ _ _ _ _ _ (j .look .ensures) (c .before .seen .given .1))
+    let j = done c in (
+      done-visits 4161 4 below4 refl (omega arith)
+          (done-of true _ _ _ _ _ _ _ _ _ (j .look .ensures) (c .before .seen .given .1)),
+      start j .pre .1,
+    )
 
 same-length-4 : tie.Need-same-length-4
 same-length-4 c = search needs
@@ -143,9 +147,12 @@ returns-2 c =
     let u = visited c in
     let t = in-cut (u .before) in
     let j = looked t in
-    let p = start j .pre in
-    open-children 4 4 (p .level .sound) (omega arith) (omega arith) (p .side) (p .ready .fault) (p .cell) (opened t)
-    below4 (64 * 65) (u .fours .ensures)
+    let p = start j .pre .0 in
+    let inside = u .fours .ensures in (
+      open-children 4 4 (p .level .sound) (omega arith) (omega arith) (p .side) (p .ready .fault) (p .cell) (opened t)
+          below4 (64 * 65) (inside .0),
+      inside .1,
+    )
 
 pub visit-sixteen-spec : {M : Type 1} → statement M
 visit-sixteen-spec =

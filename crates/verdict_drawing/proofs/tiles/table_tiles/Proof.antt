@@ -5,7 +5,7 @@ use Prim.Native.Nat.{_-_, _*_, _≤_, _<_}
 use native.Mathlib.Nat.{mul-comm, mul-le-mul-right}
 use native.Mathlib.Omega.{arith}
 use lib.ListN.{length, getD}
-use Rattle.rules.specs.Tapes.{slotLimit}
+use Rattle.sweep.specs.Chunks.{blockRows}
 use Rattle.rules.specs.Drawings.{flatBound}
 use Rattle.picture.specs.Shapes.{gridIn}
 use Rattle.walk.specs.Cells.{sizeIn}
@@ -25,7 +25,7 @@ Inv-loop whole grid rectangle table₀ picture₀ work₀ first₀ second₀ slo
     × (length work ≡ length work₀)
     × (length first ≡ length first₀)
     × (length second ≡ length second₀)
-    × (length slots ≡ slotLimit)
+    × (length slots ≡ blockRows)
 
 abbrev μ-loop : tie.MeasureT-loop
 μ-loop whole grid rectangle table₀ picture₀ work₀ first₀ second₀ slots₀ count₀ end k₀ table picture work first second slots count k = end - k
