@@ -5,7 +5,7 @@ use mathlib.Core.List.{List}
 use Prim.Native.Nat.{ℕ, _+_, _%_, _≤_}
 use lib.IntN.{ℤ}
 use lib.ListN.{length}
-use Rattle.rules.specs.Tapes.{slotLimit}
+use Rattle.sweep.specs.Chunks.{blockRows}
 use Rattle.picture.specs.Parts.{Blank}
 use Rattle.picture.specs.declared.grid.Grid.{Grid}
 use Rattle.walk.specs.Cells.{Ready, CellOk}
@@ -34,5 +34,5 @@ pub record ForEights (n : ℕ) (whole ws : List ℕ) (grid : Grid) (c : Cell) (b
   pub even : c .x % 8 ≡ 0
   pub room : MarksFit 2 whole work
   pub second : length whole ≤ length next
-  pub slots : length lanes ≡ slotLimit
+  pub slots : length lanes ≡ blockRows
   pub blank : Blank (grid .width) (c .x) (c .x + n) (c .y) (c .y + n) b

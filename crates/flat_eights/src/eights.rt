@@ -3,7 +3,7 @@ use crate::look::look;
 use flat_samples::samples::sample_rows;
 use picture::grid::Grid;
 use shortening::marks::mark_room;
-use tape::SLOT_LIMIT;
+use sweep::BLOCK;
 use walk::cell::Cell;
 use walk::children::child;
 use walk::children::child_count;
@@ -12,7 +12,7 @@ ghost use mathlib.Core.Path.{_≡_};
 ghost use mathlib.Core.Bool.{false};
 ghost use Prim.Native.Nat.{_+_, _*_};
 ghost use lib.ListN.{length};
-ghost use Rattle.rules.specs.Tapes.{slotLimit};
+ghost use Rattle.sweep.specs.Chunks.{blockRows};
 ghost use Rattle.walk.specs.Children.{childrenIn};
 ghost use Rattle.picture.specs.Parts.{Apart};
 ghost use Rattle.walk.specs.Cells.{regionIn};
@@ -29,13 +29,13 @@ fn visit_eight(
     picture: &mut [u8],
     work: &mut [u8],
     second: &mut [u64],
-    slots: &mut [[i32; 8]; SLOT_LIMIT],
+    slots: &mut [[i32; 8]; BLOCK],
 ) -> u64
     requires { ⌜ ForEights 8 (now whole) (now code) grid cell
         (now picture) (now work) (now second) (now slots) ⌝ }
     ensures { λ r. ⌜ Visits false 65 (now (code .entry)) grid below8 (regionIn cell)
         (now (picture .entry)) (now (picture .exit)) r ⌝ }
-    ensures { λ _. ⌜ length (now (slots .exit)) ≡ slotLimit ⌝ }
+    ensures { λ _. ⌜ length (now (slots .exit)) ≡ blockRows ⌝ }
     ensures { λ _. ⌜ Apart (grid .width) (cell .x) (cell .x + 8) (cell .y) (cell .y + 8)
         (now (picture .entry)) (now (picture .exit)) ⌝ }
 {
@@ -59,13 +59,13 @@ pub fn eights(
     picture: &mut [u8],
     work: &mut [u8],
     second: &mut [u64],
-    slots: &mut [[i32; 8]; SLOT_LIMIT],
+    slots: &mut [[i32; 8]; BLOCK],
 ) -> u64
     requires { ⌜ ForEights 64 (now whole) (now code) grid parent
         (now picture) (now work) (now second) (now slots) ⌝ }
     ensures { λ r. ⌜ Folds false (64 * 65) (now (code .entry)) grid below8 (childrenIn parent 8)
         (now (picture .entry)) (now (picture .exit)) r ⌝ }
-    ensures { λ _. ⌜ length (now (slots .exit)) ≡ slotLimit ⌝ }
+    ensures { λ _. ⌜ length (now (slots .exit)) ≡ blockRows ⌝ }
     ensures { λ _. ⌜ Apart (grid .width) (parent .x) (parent .x + 64) (parent .y) (parent .y + 64)
         (now (picture .entry)) (now (picture .exit)) ⌝ }
 {

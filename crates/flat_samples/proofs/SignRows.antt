@@ -1,5 +1,5 @@
--- A row of samples in lanes: each lane's sign is the sample's material, and the signs make the row's byte.
-use mathlib.Core.Path.{_≡_, refl, sym, ap, _∙_}
+-- Rows of samples in lanes: each lane's sign is the sample's material, and the signs make a row's byte.
+use mathlib.Core.Path.{_≡_, refl, sym, ap, subst, _∙_}
 use mathlib.Core.Bool.{Bool, true, false}
 use mathlib.Core.List.{List, [], _∷_, _++_}
 use lib.IntN.{ℤ}
@@ -15,15 +15,17 @@ use Rattle.rules.specs.Values.{pick, when, isNeg}
 use Rattle.rules.specs.Tapes.{Tape, material, valueAt}
 use Rattle.rules.specs.Drawings as D
 use Rattle.rules.specs.Accepted.{Accepted}
-use Rattle.lanes.specs.Lanes.{laneCount, lane}
+use Rattle.lanes.specs.Lanes.{laneCount, lane, All}
 use Rattle.code.specs.Words.{tapeIn}
-use Rattle.sweep.specs.Sweeps.{laneSample, Swept}
+use Rattle.sweep.specs.Chunks.{chunkRow}
+use Rattle.sweep.specs.Sweeps.{Swept}
 use Rattle.picture.specs.Bits.{rowByteFrom, rowByte}
 use Rattle.picture.specs.Shapes.{gridIn}
 use Rattle.picture.specs.declared.grid.Grid.{Grid}
 use Rattle.walk.specs.Cells.{CellOk}
 use Rattle.walk.specs.declared.cell.Cell.{Cell}
-use Rattle.flat_samples.specs.Rows.{materials, LaneSamples, SignsAre, SignByte}
+use Rattle.axis_lanes.specs.Axes.{LaneSamples}
+use Rattle.flat_samples.specs.Rows.{materials, Splats, SignsAre, SignByte, RowsRun}
 use Rattle.flat_samples.proofs.SampleRows.{materials-length}
 use Rattle.flat_samples.proofs.SampleLaws.{sample-is, sample-ok}
 
@@ -104,29 +106,49 @@ materials-at t g y (suc m) x (suc k) h =
     let e : suc x + k ≡ x + suc k = omega arith in
     materials-at t g y m (suc x) k (omega arith) ∙ ap (λ i. material t (D.sampleAt g i y 0)) e
 
--- What a sweep over the lanes of a row gives.
-module _ {grid : Grid} {c : Cell} (ok : CellOk 1 grid c) (eight : c .side ≡ 8)
+-- What a sweep over a region's rows gives, a row a chunk.
+module _ {grid : Grid} {p : Cell} (ok : CellOk 1 grid p) (eight : p .side ≡ 8)
     (fault : D.gridFault false (gridIn grid false) ≡ 0) where
-  module _ (ws : List ℕ) (xs row : List ℤ) (ss ss′ : List (List ℤ)) (y : ℕ) {v z : ℤ} (l : y < c .yend)
-      (samples : LaneSamples (grid .xorigin) (grid .xstep) (c .x) (c .xend) xs)
-      (ev : v ≡ D.at (grid .yorigin) (grid .ystep) y) (ez : z ≡ grid .zorigin) (swept : Swept ws xs v z ss ss′ row)
-      (n : ℕ) (a : Accepted (tapeIn n ws)) where
-    lane-sign : (k : ℕ) → k < c .xend - c .x → isNeg (lane row k)
-        ≡ getD (materials (c .xend - c .x) (tapeIn n ws) (gridIn grid false) (c .x) y) k false
-    unfolding material
-    lane-sign k h =
-        let w : k < laneCount = omega (arith, ok .xs, eight) in
-        let ex = samples .here k w (omega (arith, ok .xs)) in
-        let s = sample-is grid (c .x + k) y ex ev ez in
-        let o = sample-ok grid (c .x + k) y ex ev ez fault
-        (record { x-in = omega (arith, ok .xs); y-in = omega (arith, ok .ys, l); z-in = omega arith }) in
-        ap isNeg (swept .values n k a w o ∙ ap (valueAt (tapeIn n ws)) s)
-        ∙ sym (materials-at (tapeIn n ws) (gridIn grid false) y (c .xend - c .x) (c .x) k h)
+  module _ {ws : List ℕ} {xs vs us : List ℤ} {ys zs ss : List (List ℤ)} {r : ℕ}
+      (ex : LaneSamples (grid .xorigin) (grid .xstep) (p .x) (p .xend) xs)
+      (ey : LaneSamples (grid .yorigin) (grid .ystep) (p .y) (p .yend) vs) (sy : Splats vs ys)
+      (ez : All (grid .zorigin) us) (sz : Splats us zs)
+      (swept : Swept ws xs ys zs (p .yend - p .y) ss r) where
+    module _ (n c : ℕ) (a : Accepted (tapeIn n ws)) (l : p .y + c < p .yend) where
+      lane-sign : (k : ℕ) → k < p .xend - p .x → isNeg (lane (chunkRow ss r c) k)
+          ≡ getD (materials (p .xend - p .x) (tapeIn n ws) (gridIn grid false) (p .x) (p .y + c)) k false
+      unfolding material
+      lane-sign k h =
+          let w : k < laneCount = omega (arith, ok .xs, eight) in
+          let v : c < laneCount = omega (arith, ok .ys, eight) in
+          let x = ex .here k w (omega (arith, ok .xs)) in
+          let y = sy .at c k v w ∙ ey .here c v l in
+          let z = sz .at c k v w ∙ ez .at c v in
+          let s = sample-is grid (p .x + k) (p .y + c) x y z in
+          let o = sample-ok grid (p .x + k) (p .y + c) x y z fault
+          (record { x-in = omega (arith, ok .xs); y-in = omega (arith, ok .ys, l); z-in = omega arith }) in
+          ap isNeg (swept .values n c k a (omega (arith, l)) w o ∙ ap (valueAt (tapeIn n ws)) s)
+          ∙ sym (materials-at (tapeIn n ws) (gridIn grid false) (p .y + c) (p .xend - p .x) (p .x) k h)
 
-    pub row-signs : SignsAre (c .xend - c .x) row
-        (materials (c .xend - c .x) (tapeIn n ws) (gridIn grid false) (c .x) y)
-    row-signs =
-        record {
-          count = materials-length (tapeIn n ws) (gridIn grid false) y (c .xend - c .x) (c .x);
-          here = lane-sign;
-        }
+      row-signs : SignsAre (p .xend - p .x) (chunkRow ss r c)
+          (materials (p .xend - p .x) (tapeIn n ws) (gridIn grid false) (p .x) (p .y + c))
+      row-signs =
+          record {
+            count = materials-length (tapeIn n ws) (gridIn grid false) (p .y + c) (p .xend - p .x) (p .x);
+            here = lane-sign;
+          }
+
+    pub rows-run : RowsRun ws grid p ss r
+    rows-run = record { size = swept .size; within = swept .within; signs = row-signs }
+
+-- The row of index y.
+pub signs-at : {ws : List ℕ} {grid : Grid} {p : Cell} {ss : List (List ℤ)} {r : ℕ} → RowsRun ws grid p ss r → (y : ℕ)
+    → p .y ≤ y → y < p .yend → (n : ℕ) → Accepted (tapeIn n ws)
+    → SignsAre (p .xend - p .x) (chunkRow ss r (y - p .y))
+    (materials (p .xend - p .x) (tapeIn n ws) (gridIn grid false) (p .x) y)
+signs-at {ws} {grid} {p} {ss} {r} run y h l n a =
+    let e : p .y + (y - p .y) ≡ y = omega arith in
+    subst
+    (λ v. SignsAre (p .xend - p .x) (chunkRow ss r (y - p .y))
+    (materials (p .xend - p .x) (tapeIn n ws) (gridIn grid false) (p .x) v)) e
+    (run .signs n (y - p .y) a (omega arith))

@@ -1,50 +1,52 @@
-// Side 1: the samples of a region of side 8, a row of at most 8 in one sweep and stored as one byte.
+// Side 1: the samples of a region of side 8, all rows in one sweep, and each row of at most 8 stored as one byte.
+use axis_lanes::lane_samples;
 use picture::bits::store_row;
 use picture::bits::with_pixel;
 use picture::grid::Grid;
-use picture::grid::sample;
-use sweep::run_row;
-use tape::SLOT_LIMIT;
+use sweep::BLOCK;
+use sweep::run_chunks;
 use walk::cell::Cell;
 ghost use mathlib.Core.Path.{_≡_};
 ghost use mathlib.Core.Bool.{false};
 ghost use mathlib.Core.List.{[]};
-ghost use Prim.Native.Nat.{ℕ, _+_, _-_, _<_, _≤_};
+ghost use Prim.Native.Nat.{ℕ, _+_, _-_, _≤_};
 ghost use lib.Dec.{ltb};
 ghost use lib.ListN.{length};
 ghost use Rattle.rules.specs.Values.{pick, isNeg};
-ghost use Rattle.rules.specs.Tapes.{slotLimit};
-ghost use Rattle.rules.specs.Drawings.{sizeLimit, alongX, alongY};
+ghost use Rattle.rules.specs.Drawings.{alongX, alongY};
 ghost use Rattle.rules.specs.Accepted.{Accepted};
 ghost use Rattle.code.specs.Words.{tapeIn};
+ghost use Rattle.sweep.specs.Chunks.{blockRows};
 ghost use Rattle.picture.specs.Bits.{rowByte, StoredRow};
 ghost use Rattle.picture.specs.Parts.{Blank, Apart};
 ghost use Rattle.picture.specs.Shapes.{gridIn};
 ghost use Rattle.walk.specs.Walks.{Folds};
-ghost use Rattle.flat_samples.specs.Rows.{materials, LaneSamples, SignByte};
-ghost use Rattle.flat_samples.specs.Asked.{ForLanes, ForByte, ForRow, ForRows};
+ghost use Rattle.flat_samples.specs.Rows.{materials, Splats, SignByte, RowsRun};
+ghost use Rattle.flat_samples.specs.Asked.{ForRun, ForRow, ForRows};
 
-// The index of a lane's sample: past the end the last one's again, so that every lane runs on a sample.
-fn lane_index(from: u32, end: u32, k: usize) -> u32
-    requires { ⌜ (from < end) × (end ≤ sizeLimit) × (k < 8) ⌝ }
-    ensures { λ r. ⌜ (r < end) × (from + k < end → r ≡ from + k) ⌝ }
+// Each value in all lanes of a row.
+fn splats(vs: [i32; 8]) -> [[i32; 8]; 8]
+    ensures { λ r. ⌜ Splats vs r ⌝ }
 {
-    let i = from + k as u32;
-    if i < end { i } else { end - 1 }
-}
-
-// The samples of an axis from an index on, one a lane.
-fn lane_samples(origin: i32, step: i32, from: u32, end: u32) -> [i32; 8]
-    requires { ⌜ ForLanes origin step from end ⌝ }
-    ensures { λ r. ⌜ LaneSamples origin step from end r ⌝ }
-{
-    let mut r = [0i32; 8];
-    let mut k = 0;
-    while k < 8 {
-        r[k] = sample(origin, step, lane_index(from, end, k));
-        k += 1;
+    let mut r = [[0i32; 8]; 8];
+    let mut c = 0;
+    while c < 8 {
+        let row = lanes::splat(vs[c]);
+        r[c] = row;
+        c += 1;
     }
     r
+}
+
+// The values of the parent's samples, a row a chunk: their slot. Lanes past a row's last sample run on it again.
+fn run_rows(code: &[u64], grid: Grid, parent: Cell, slots: &mut [[i32; 8]; BLOCK]) -> usize
+    requires { ⌜ ForRun (now code) grid parent (now slots) ⌝ }
+    ensures { λ r. ⌜ RowsRun (now (code .entry)) grid parent (now (slots .exit)) r ⌝ }
+{
+    let xs = lane_samples(grid.xorigin, grid.xstep, parent.x, parent.xend);
+    let ys = splats(lane_samples(grid.yorigin, grid.ystep, parent.y, parent.yend));
+    let zs = splats(lanes::splat(grid.zorigin));
+    run_chunks(code, xs, &ys, &zs, (parent.yend - parent.y) as usize, slots)
 }
 
 // Whether a lane's sample has material: its value is below 0. A lane past the row's last sample has none.
@@ -69,38 +71,17 @@ fn sign_byte(row: [i32; 8], count: u32) -> u8
     byte
 }
 
-// The parent's samples of row y, the first in the highest bit: 1 is material.
-fn row_byte(
+// One row of samples of the parent by their values, each counted as a run of the words. Whatever its byte held, each
+// sample's bit is its material; where the byte was 0, this is what the walk draws.
+fn store_signs(
     code: &[u64],
     grid: Grid,
     parent: Cell,
-    xs: [i32; 8],
+    row: [i32; 8],
     y: u32,
-    slots: &mut [[i32; 8]; SLOT_LIMIT],
-) -> u8
-    requires { ⌜ ForByte (now code) grid parent xs y (now slots) ⌝ }
-    ensures { λ r. ⌜ ((n : ℕ) → Accepted (tapeIn n (now (code .entry)))
-        → r ≡ rowByte (materials (parent .xend - parent .x) (tapeIn n (now (code .entry))) (gridIn grid false)
-        (parent .x) y)) ⌝ }
-    ensures { λ _. ⌜ length (now (slots .exit)) ≡ slotLimit ⌝ }
-{
-    let at = sample(grid.yorigin, grid.ystep, y);
-    let row = run_row(code, xs, at, grid.zorigin, slots);
-    sign_byte(row, parent.xend - parent.x)
-}
-
-// One row of samples of the parent, each counted as a run of the words. Whatever its byte held, each sample's bit is its
-// material; where the byte was 0, this is what the walk draws.
-fn sample_row(
-    code: &[u64],
-    grid: Grid,
-    parent: Cell,
-    xs: [i32; 8],
-    y: u32,
-    slots: &mut [[i32; 8]; SLOT_LIMIT],
     picture: &mut [u8],
 ) -> u64
-    requires { ⌜ ForRow (now code) grid parent xs y (now slots) (now picture) ⌝ }
+    requires { ⌜ ForRow (now code) grid parent row y (now picture) ⌝ }
     ensures { λ _. ⌜ ((n : ℕ) → Accepted (tapeIn n (now (code .entry)))
         → StoredRow (grid .width) (parent .x) y
         (rowByte (materials (parent .xend - parent .x) (tapeIn n (now (code .entry))) (gridIn grid false) (parent .x)
@@ -109,11 +90,10 @@ fn sample_row(
     ensures { λ r. ⌜ (Blank (grid .width) (parent .x) (parent .x + 8) y (y + 1) (now (picture .entry))
         → Folds false 8 (now (code .entry)) grid [] (alongX 8 (parent .x) y 0 1 (parent .xend))
         (now (picture .entry)) (now (picture .exit)) r) ⌝ }
-    ensures { λ _. ⌜ length (now (slots .exit)) ≡ slotLimit ⌝ }
     ensures { λ _. ⌜ Apart (grid .width) (parent .x) (parent .x + 8) y (y + 1) (now (picture .entry))
         (now (picture .exit)) ⌝ }
 {
-    let byte = row_byte(code, grid, parent, xs, y, slots);
+    let byte = sign_byte(row, parent.xend - parent.x);
     store_row(
         picture,
         grid.width as usize,
@@ -128,22 +108,23 @@ pub fn sample_rows(
     code: &[u64],
     grid: Grid,
     parent: Cell,
-    slots: &mut [[i32; 8]; SLOT_LIMIT],
+    slots: &mut [[i32; 8]; BLOCK],
     picture: &mut [u8],
 ) -> u64
     requires { ⌜ ForRows (now code) grid parent (now slots) (now picture) ⌝ }
     ensures { λ r. ⌜ Folds false 64 (now (code .entry)) grid []
         (alongY 8 8 (parent .x) (parent .y) 0 1 (parent .xend) (parent .yend))
         (now (picture .entry)) (now (picture .exit)) r ⌝ }
-    ensures { λ _. ⌜ length (now (slots .exit)) ≡ slotLimit ⌝ }
+    ensures { λ _. ⌜ length (now (slots .exit)) ≡ blockRows ⌝ }
     ensures { λ _. ⌜ Apart (grid .width) (parent .x) (parent .x + 8) (parent .y) (parent .y + 8)
         (now (picture .entry)) (now (picture .exit)) ⌝ }
 {
-    let xs = lane_samples(grid.xorigin, grid.xstep, parent.x, parent.xend);
+    let at = run_rows(code, grid, parent, slots);
     let mut count: u64 = 0;
     let mut y = parent.y;
     while y < parent.yend {
-        count += sample_row(code, grid, parent, xs, y, slots, picture);
+        let row = slots[8 * at + (y - parent.y) as usize];
+        count += store_signs(code, grid, parent, row, y, picture);
         y += 1;
     }
     count

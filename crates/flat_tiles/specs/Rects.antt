@@ -5,7 +5,7 @@ use mathlib.Core.List.{List}
 use Prim.Native.Nat.{ℕ, _+_, _%_, _≤_}
 use lib.IntN.{ℤ}
 use lib.ListN.{length}
-use Rattle.rules.specs.Tapes.{slotLimit}
+use Rattle.sweep.specs.Chunks.{blockRows}
 use Rattle.rules.specs.Drawings.{sizeLimit}
 use Rattle.picture.specs.Parts.{Blank, Apart}
 use Rattle.picture.specs.declared.grid.Grid.{Grid}
@@ -45,7 +45,7 @@ pub record ForTile (whole : List ℕ) (grid : Grid) (cell : Cell) (picture work 
   pub ok : CellOk 1 grid cell
   pub side : cell .side ≡ 64
   pub start : cell .x % 8 ≡ 0
-  pub size : length slots ≡ slotLimit
+  pub size : length slots ≡ blockRows
   pub blank : Blank (grid .width) (cell .x) (cell .x + 64) (cell .y) (cell .y + 64) picture
 
 pub record ForRect (whole : List ℕ) (grid : Grid) (parent : Cell) (picture work first second : List ℕ) : Type 0 where
@@ -56,4 +56,4 @@ pub record ForRect (whole : List ℕ) (grid : Grid) (parent : Cell) (picture wor
 pub record ForTiles (whole : List ℕ) (grid : Grid) (parent : Cell) (picture work first second : List ℕ)
     (slots : List (List ℤ)) : Type 0 where
   pub rect : ForRect whole grid parent picture work first second
-  pub size : length slots ≡ slotLimit
+  pub size : length slots ≡ blockRows

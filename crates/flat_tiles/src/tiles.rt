@@ -3,7 +3,7 @@ use flat_eights::eights::eights;
 use flat_eights::look::look;
 use picture::bits::clear;
 use picture::grid::Grid;
-use tape::SLOT_LIMIT;
+use sweep::BLOCK;
 use walk::cell::Cell;
 use walk::cell::cell_at;
 use walk::children::child;
@@ -13,7 +13,7 @@ ghost use mathlib.Core.Path.{_≡_};
 ghost use mathlib.Core.Bool.{false};
 ghost use Prim.Native.Nat.{_+_, _*_};
 ghost use lib.ListN.{length};
-ghost use Rattle.rules.specs.Tapes.{slotLimit};
+ghost use Rattle.sweep.specs.Chunks.{blockRows};
 ghost use Rattle.rules.specs.Drawings.{flatBound};
 ghost use Rattle.picture.specs.Parts.{Apart};
 ghost use Rattle.walk.specs.Cells.{regionIn};
@@ -31,12 +31,12 @@ pub fn visit_tile(
     work: &mut [u8],
     first: &mut [u64],
     second: &mut [u64],
-    slots: &mut [[i32; 8]; SLOT_LIMIT],
+    slots: &mut [[i32; 8]; BLOCK],
 ) -> u64
     requires { ⌜ ForTile (now whole) grid cell (now picture) (now work) (now first) (now second) (now slots) ⌝ }
     ensures { λ r. ⌜ Visits false flatBound (now (whole .entry)) grid below64 (regionIn cell)
         (now (picture .entry)) (now (picture .exit)) r ⌝ }
-    ensures { λ _. ⌜ length (now (slots .exit)) ≡ slotLimit ⌝ }
+    ensures { λ _. ⌜ length (now (slots .exit)) ≡ blockRows ⌝ }
     ensures { λ _. ⌜ Apart (grid .width) (cell .x) (cell .x + 64) (cell .y) (cell .y + 64)
         (now (picture .entry)) (now (picture .exit)) ⌝ }
 {
@@ -59,12 +59,12 @@ fn tiles(
     work: &mut [u8],
     first: &mut [u64],
     second: &mut [u64],
-    slots: &mut [[i32; 8]; SLOT_LIMIT],
+    slots: &mut [[i32; 8]; BLOCK],
 ) -> u64
     requires { ⌜ ForTiles (now whole) grid parent (now picture) (now work) (now first) (now second) (now slots) ⌝ }
     ensures { λ r. ⌜ Folds false (64 * flatBound) (now (whole .entry)) grid below64 (childrenIn parent 64)
         (now (picture .entry)) (now (picture .exit)) r ⌝ }
-    ensures { λ _. ⌜ length (now (slots .exit)) ≡ slotLimit ⌝ }
+    ensures { λ _. ⌜ length (now (slots .exit)) ≡ blockRows ⌝ }
     ensures { λ _. ⌜ TilesApart grid parent (now (picture .entry)) (now (picture .exit)) ⌝ }
 {
     let mut count: u64 = 0;
@@ -94,7 +94,7 @@ pub fn tiles_in(
         (now (picture .entry)) (now (picture .exit)) r ⌝ }
     ensures { λ _. ⌜ TilesApart grid parent (now (picture .entry)) (now (picture .exit)) ⌝ }
 {
-    let mut slots = [[0i32; 8]; SLOT_LIMIT];
+    let mut slots = [[0i32; 8]; BLOCK];
     tiles(
         whole,
         grid,

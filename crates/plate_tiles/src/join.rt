@@ -6,7 +6,7 @@ use crate::tiles::tile;
 use crate::tiles::tile_count;
 use flat_tiles::tiles::visit_tile;
 use picture::grid::Grid;
-use tape::SLOT_LIMIT;
+use sweep::BLOCK;
 ghost use mathlib.Core.Path.{_≡_};
 ghost use mathlib.Core.Bool.{false};
 ghost use Prim.Native.Nat.{ℕ};
@@ -38,7 +38,7 @@ fn join_turn(
         return;
     }
     let cell = tile(grid, m);
-    let mut slots = [[0i32; 8]; SLOT_LIMIT];
+    let mut slots = [[0i32; 8]; BLOCK];
     visit_tile(code, grid, cell, blank, work, first, second, &mut slots);
     join_cell(blank, picture, grid, cell);
     clear_cell(blank, grid, cell)

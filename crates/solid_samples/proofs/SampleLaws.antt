@@ -13,7 +13,7 @@ use mir.Syntax.{w32}
 use mir.Val.{SFits}
 use mir.Facts.{toZ-ofZ}
 use Rattle.rules.specs.Values.{isNeg, IsValue, Sample}
-use Rattle.rules.specs.Tapes.{valueAt, material}
+use Rattle.rules.specs.Tapes.{material}
 use Rattle.rules.specs.Drawings.{at, region, sampleAt, pastZ, raiseRow, gridFault}
 use Rattle.rules.proofs.Words.{read}
 use Rattle.code.specs.Words.{tapeIn}
@@ -42,6 +42,10 @@ samples-again p e = record { sound = p .sound; ready = ready-again (p .ready) e;
 -- A sample's coordinates, handed over as words and taken back.
 pub at-words : {f s : ℤ} (i : ℕ) → SFits w32 f → SFits w32 s → at (read w32 f) (read w32 s) i ≡ at f s i
 at-words {f} {s} i hf hs = rw (toZ-ofZ {w = w32} {z = f} hf, toZ-ofZ {w = w32} {z = s} hs)
+
+-- A lane's value, handed over as a word.
+pub value-word : {ws : List ℕ} {s : Sample} {v : ℤ} → SFits w32 v → Evaluated ws s v → Evaluated ws s (read w32 v)
+value-word {v = v} f e = rw (toZ-ofZ {w = w32} {z = v} f) e
 
 module _ (grid : Grid) (x y z : ℕ) (i : InGrid (grid .depth) grid x y z) where
   module _ (e : gridFault true (gridIn grid true) ≡ 0) where
@@ -98,8 +102,8 @@ module _ (grid : Grid) (x y z : ℕ) (i : InGrid (grid .depth) grid x y z) where
         }
 
     -- Seen, with the value v.
-    module _ (low : getD b (y * grid .width + x) 0 < z + 1) (q : Sample) (same : q ≡ sampleAt (gridIn grid true) x y z)
-        (v : ℤ) (run : Evaluated ws q v) where
+    module _ (low : getD b (y * grid .width + x) 0 < z + 1) (v : ℤ)
+        (run : Evaluated ws (sampleAt (gridIn grid true) x y z) v) where
       pub sample-skips : isNeg v ≡ false → Visits true 1 ws grid [] (region x y z 1) b b (length ws)
       unfolding material
       sample-skips n =
@@ -107,7 +111,7 @@ module _ (grid : Grid) (x y z : ℕ) (i : InGrid (grid .depth) grid x y z) where
             draws = λ m a.
                 draws-count (length-clauses ws)
                 (draws-sample-empty (hidden-by false (lt-leb _ _ low)) (tapeIn m ws)
-                (ap isNeg (ap (valueAt (tapeIn m ws)) (sym same) ∙ sym (run .value m a)) ∙ n));
+                (ap isNeg (sym (run .value m a)) ∙ n));
             bound = omega arith;
           }
 
@@ -124,7 +128,7 @@ module _ (grid : Grid) (x y z : ℕ) (i : InGrid (grid .depth) grid x y z) where
             draws = λ m a.
                 draws-count (length-clauses ws)
                 (draws-sample-full (hidden-by false (lt-leb _ _ low)) (tapeIn m ws)
-                (ap isNeg (ap (valueAt (tapeIn m ws)) (sym same) ∙ sym (run .value m a)) ∙ n)
+                (ap isNeg (sym (run .value m a)) ∙ n)
                 (fill-sample {g = gridIn grid true} {z = z} (i .x-in) (i .y-in)
                 (rw (past-z (r .fault)) (raises-same (y * grid .width + x) 1 (z + 1) b (raised b′ h)))));
             bound = omega arith;

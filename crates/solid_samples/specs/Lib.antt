@@ -1,2 +1,3 @@
--- What the functions of a solid's picture at a region ask.
+-- What the functions of a solid's picture at a region ask, and the chunks that its samples are run in.
+pub mod Chunks
 pub mod Samples

@@ -4,7 +4,7 @@ use mathlib.Core.Bool.{false}
 use Prim.Native.Nat.{_+_, _-_, _*_, _≤_, _<_}
 use native.Mathlib.Omega.{arith}
 use lib.ListN.{length, drop}
-use Rattle.rules.specs.Tapes.{slotLimit}
+use Rattle.sweep.specs.Chunks.{blockRows}
 use Rattle.picture.specs.Parts.{Apart}
 use Rattle.picture.proofs.PartLaws.{apart-none}
 use Rattle.walk.proofs.CellLaws.{ready-small}
@@ -23,7 +23,7 @@ Inv-loop whole code grid parent picture₀ work₀ second₀ slots₀ count₀ e
     AtChild false 8 65 code grid below8 parent picture₀ picture count m
     × (length work ≡ length work₀)
     × (length second ≡ length second₀)
-    × (length slots ≡ slotLimit)
+    × (length slots ≡ blockRows)
     × Clear (grid .width) (drop m (childrenIn parent 8)) picture
     × Apart (grid .width) (parent .x) (parent .x + 64) (parent .y) (parent .y + 64) picture₀ picture
 

@@ -4,7 +4,7 @@ use mathlib.Core.Bool.{false}
 use Prim.Native.Nat.{_-_, _*_, _%_, _≤_, _<_}
 use native.Mathlib.Omega.{arith}
 use lib.ListN.{length, drop}
-use Rattle.rules.specs.Tapes.{slotLimit}
+use Rattle.sweep.specs.Chunks.{blockRows}
 use Rattle.rules.specs.Drawings.{flatBound}
 use Rattle.picture.proofs.PartLaws.{apart-none}
 use Rattle.walk.specs.Children.{childrenIn}
@@ -24,7 +24,7 @@ Inv-loop whole grid parent picture₀ work₀ first₀ second₀ slots₀ count�
     × (length work ≡ length work₀)
     × (length first ≡ length first₀)
     × (length second ≡ length second₀)
-    × (length slots ≡ slotLimit)
+    × (length slots ≡ blockRows)
     × Clear (grid .width) (drop m (childrenIn parent 64)) picture
     × TilesApart grid parent picture₀ picture
 

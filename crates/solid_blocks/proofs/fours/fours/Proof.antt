@@ -4,6 +4,7 @@ use mathlib.Core.Bool.{true}
 use Prim.Native.Nat.{_-_, _*_, _≤_, _<_}
 use native.Mathlib.Omega.{arith}
 use lib.ListN.{length}
+use Rattle.sweep.specs.Chunks.{blockRows}
 use Rattle.walk.proofs.CellLaws.{ready-small}
 use Rattle.walk.proofs.LookLaws.{sound-length}
 use Rattle.walk.proofs.Places.{ready-again}
@@ -15,13 +16,14 @@ use Rattle.solid_blocks.proofs.fours.fours.Statement.{statement}
 use Rattle.solid_blocks.proofs.fours.fours.Tie as tie
 
 abbrev Inv-loop : tie.InvT-loop
-Inv-loop whole code grid parent picture₀ work₀ third₀ count₀ end m₀ picture work third count m =
+Inv-loop whole code grid parent picture₀ work₀ third₀ slots₀ count₀ end m₀ picture work third slots count m =
     AtChild true 4 65 code grid below4 parent picture₀ picture count m
     × (length work ≡ length work₀)
     × (length third ≡ length third₀)
+    × (length slots ≡ blockRows)
 
 abbrev μ-loop : tie.MeasureT-loop
-μ-loop whole code grid parent picture₀ work₀ third₀ count₀ end m₀ picture work third count m = end - m
+μ-loop whole code grid parent picture₀ work₀ third₀ slots₀ count₀ end m₀ picture work third slots count m = end - m
 
 -- The places: the start; in a turn before the child's call, after it, and past the loop.
 abbrev begun : tie.After-slice-known3 Inv-loop μ-loop → tie.Start Inv-loop μ-loop
@@ -30,8 +32,8 @@ begun c = c .before .before .before .before .before
 abbrev start : tie.At-loop Inv-loop μ-loop → tie.Start Inv-loop μ-loop
 start c = begun (c .before .before)
 
-abbrev in-turn : tie.After-visit-four-arg3 Inv-loop μ-loop → tie.After-child Inv-loop μ-loop
-in-turn c = c .before .before .before
+abbrev in-turn : tie.After-slots Inv-loop μ-loop → tie.After-child Inv-loop μ-loop
+in-turn c = c .before .before .before .before
 
 abbrev called : tie.After-slice-known6 Inv-loop μ-loop → tie.After-visit-four Inv-loop μ-loop
 called c = c .before .before .before .before .before .before
@@ -59,6 +61,7 @@ loop-holds c = (
   child-begins _,
   refl,
   refl,
+  refl,
 )
 
 child-requires : tie.Need-child-requires Inv-loop μ-loop
@@ -69,15 +72,17 @@ visit-four-requires c κs =
     let t = in-turn c in
     let k = t .child .ensures in
     let i = t .before .before .loop .inv in
-    let p = start (t .before .before) .pre in
-    record {
-      level = p .level;
-      ready = ready-again (p .ready) (i .0 .size);
-      cell = k .ok _ _ (p .cell);
-      side = k .side;
-      room = omega (arith, p .room, i .1);
-      third = omega (arith, p .third, i .2);
-    }
+    let p = start (t .before .before) .pre in (
+      record {
+        level = p .level;
+        ready = ready-again (p .ready) (i .0 .size);
+        cell = k .ok _ _ (p .cell);
+        side = k .side;
+        room = omega (arith, p .room, i .1);
+        third = omega (arith, p .third, i .2);
+      },
+      i .3,
+    )
 
 add-count : tie.Need-add-count Inv-loop μ-loop
 add-count c =
@@ -85,7 +90,7 @@ add-count c =
     let t = in-turn (u .before) in
     let l = t .before .before in
     let s = start l in
-    let sum = child-sum (l .loop .inv .0) 64 (more (t .before)) (few s) (u .visit-four .ensures .bound) in
+    let sum = child-sum (l .loop .inv .0) 64 (more (t .before)) (few s) (u .visit-four .ensures .0 .bound) in
     omega (arith, sound-length (s .pre .level .sound), sum)
 
 add-m : tie.Need-add-m Inv-loop μ-loop
@@ -102,9 +107,10 @@ loop-again c =
     let t = in-turn (called c .before) in
     let i = t .before .before .loop .inv in
     let kept = v .kept .1 .1 .1 .1 in (
-      child-again (i .0) (t .child .ensures) (more (t .before)) (v .ensures) (kept .0),
+      child-again (i .0) (t .child .ensures) (more (t .before)) (v .ensures .0) (kept .0),
       kept .1 .0 ∙ i .1,
       kept .1 .1 .0 ∙ i .2,
+      v .ensures .1,
     )
 
 same-length : tie.Need-same-length Inv-loop μ-loop

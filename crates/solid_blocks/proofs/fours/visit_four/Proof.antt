@@ -23,8 +23,8 @@ start c = begun (c .before .before .before .before .before)
 abbrev looked : tie.After-known-told2 → tie.After-look
 looked c = c .before .before .before .before .before .before .before .before .before
 
-abbrev in-cut : tie.After-sample-layers-arg → tie.After-known-told2
-in-cut c = c .before .before .before
+abbrev in-cut : tie.After-sample-layers-arg2 → tie.After-known-told2
+in-cut c = c .before .before .before .before
 
 abbrev visited : tie.After-slice-known7 → tie.After-sample-layers
 visited c = c .before .before
@@ -45,21 +45,21 @@ opened : (c : tie.After-known-told2)
 opened c = open-of true _ _ _ _ _ _ _ _ _ (looked c .look .ensures) (c .before .seen2 .given .1)
 
 mark-room-requires : tie.Need-mark-room-requires
-mark-room-requires c κs = begun c .pre .level .kept .kept .within
+mark-room-requires c κs = begun c .pre .0 .level .kept .kept .within
 
 mul-base : tie.Need-mul-base
 mul-base c =
-    let w = begun (c .before) .pre .level .kept .kept .within in
+    let w = begun (c .before) .pre .0 .level .kept .kept .within in
     omega (arith, c .mark-room .ensures)
 
 add-base : tie.Need-add-base
 add-base c =
-    let w = begun (c .before) .pre .level .kept .kept .within in
+    let w = begun (c .before) .pre .0 .level .kept .kept .within in
     omega (arith, c .mark-room .ensures)
 
 look-requires : tie.Need-look-requires
 look-requires c κs =
-    let p = begun (made-room c .before) .pre in
+    let p = begun (made-room c .before) .pre .0 in
     let m = made-room c .mark-room .ensures in
     record {
       level = p .level;
@@ -96,21 +96,23 @@ sample-layers-requires : tie.Need-sample-layers-requires
 sample-layers-requires c κs =
     let t = in-cut c in
     let j = looked t in
-    let p = start j .pre in
-    let short = open-sound (p .level .sound) (opened t) in
-    record {
-      sound = search (short, p .level .sound);
-      ready = ready-again (p .ready) (j .look .kept .1 .1 .1 .1 .0);
-      cell = p .cell;
-      side = p .side;
-    }
+    let p = start j .pre .0 in
+    let short = open-sound (p .level .sound) (opened t) in (
+      record {
+        sound = search (short, p .level .sound);
+        ready = ready-again (p .ready) (j .look .kept .1 .1 .1 .1 .0);
+        cell = p .cell;
+        side = p .side;
+      },
+      start j .pre .1,
+    )
 
 add-result : tie.Need-add-result
 add-result c =
     let u = visited c in
     let t = in-cut (u .before) in
-    let s = start (looked t) .pre .level .sound in
-    omega (arith, sound-length s, open-fewer s (opened t), u .sample-layers .ensures .bound)
+    let s = start (looked t) .pre .0 .level .sound in
+    omega (arith, sound-length s, open-fewer s (opened t), u .sample-layers .ensures .0 .bound)
 
 same-length : tie.Need-same-length
 same-length c = search needs
@@ -123,9 +125,11 @@ same-length-3 c = search needs
 
 returns : tie.Need-returns
 returns c =
-    let j = done c in
-    done-visits 65 1 [] refl (omega arith)
-    (done-of true _ _ _ _ _ _ _ _ _ (j .look .ensures) (c .before .seen .given .1))
+    let j = done c in (
+      done-visits 65 1 [] refl (omega arith)
+          (done-of true _ _ _ _ _ _ _ _ _ (j .look .ensures) (c .before .seen .given .1)),
+      start j .pre .1,
+    )
 
 same-length-4 : tie.Need-same-length-4
 same-length-4 c = search needs
@@ -141,9 +145,12 @@ returns-2 c =
     let u = visited c in
     let t = in-cut (u .before) in
     let j = looked t in
-    let p = start j .pre in
-    open-layers 1 4 (p .level .sound) (omega arith) (omega arith) (p .side) (record { ok = p .cell; same = refl })
-    (p .ready .fault) (opened t) [] 64 (u .sample-layers .ensures)
+    let p = start j .pre .0 in
+    let inside = u .sample-layers .ensures in (
+      open-layers 1 4 (p .level .sound) (omega arith) (omega arith) (p .side) (record { ok = p .cell; same = refl })
+          (p .ready .fault) (opened t) [] 64 (inside .0),
+      inside .1,
+    )
 
 pub visit-four-spec : {M : Type 1} → statement M
 visit-four-spec =

@@ -1,103 +1,148 @@
--- The layers of regions of side 1, from the greatest z down.
+-- The samples of the axes, the chunks that are listed, their sweep, and what each chunk comes to.
+use mathlib.Core.Path.{refl}
 use mathlib.Core.Bool.{true}
-use mathlib.Core.List.{[]}
-use Prim.Native.Nat.{_-_}
 use native.Mathlib.Omega.{arith}
-use Rattle.code.specs.Runs.{Lent}
-use Rattle.code.proofs.RunLaws.{fresh-slots}
-use Rattle.walk.proofs.LookLaws.{sound-length}
-use Rattle.walk.proofs.Loops.{AtLayer, layers-begin, layers-again, layers-done}
-use Rattle.walk.proofs.Places.{down-in, down-sum}
-use Rattle.solid_samples.proofs.SampleLaws.{samples-again}
+use mir.Facts.{toZ-ofZ}
+use Rattle.picture.proofs.GridWords.{InWords, in-words}
+use Rattle.walk.proofs.CellLaws.{small, span-words, x-span, y-span, z-span}
+use Rattle.walk.proofs.LookLaws.{sound-runs}
+use Rattle.axis_lanes.specs.Axes.{LaneSamples}
+use Rattle.solid_samples.proofs.ChunkLaws.{chunks-few}
+use Rattle.solid_samples.proofs.RunLaws.{placed-run}
+use borrow.Author.Needs.{needs}
 use Rattle.solid_samples.proofs.samples.sample_layers.Statement.{statement}
 use Rattle.solid_samples.proofs.samples.sample_layers.Tie as tie
 
-abbrev Inv-loop : tie.InvT-loop
-Inv-loop code grid parent picture₀ slots₀ count₀ z₀ picture slots count z =
-    AtLayer true 1 4 16 code grid []
-    (parent .x) (parent .xend) (parent .y) (parent .yend) (parent .z) (parent .zend) picture₀ picture count z
-    × Lent slots
+-- The places: the start; the samples of x, from those of y, and of y, from those of z; the list; and the sweep.
+abbrev start : tie.After-struct-told → tie.Start
+start c = c .before .before .before
 
-abbrev μ-loop : tie.MeasureT-loop
-μ-loop code grid parent picture₀ slots₀ count₀ z₀ picture slots count z = z - parent .z
+abbrev at-x : tie.After-lane-samples → tie.Start
+at-x c = start (c .before .before)
 
--- The places: the start, the loop, a turn of it, after the call, and past the loop.
-abbrev begun : tie.After-slice-known Inv-loop μ-loop → tie.Start Inv-loop μ-loop
-begun c = c .before .before
+abbrev with-x : tie.After-lane-samples2 → tie.After-lane-samples
+with-x c = c .before .before .before .before
 
-abbrev start : tie.At-loop Inv-loop μ-loop → tie.Start Inv-loop μ-loop
-start c = begun (c .before)
+abbrev with-y : tie.After-lane-samples3 → tie.After-lane-samples2
+with-y c = c .before .before .before
 
-abbrev at-test : tie.Then1 Inv-loop μ-loop → tie.At-loop Inv-loop μ-loop
-at-test c = c .before .before
+abbrev with-z : tie.After-places → tie.After-lane-samples3
+with-z c = c .before .before .before .before
 
-abbrev in-turn : tie.After-sample-rows-arg Inv-loop μ-loop → tie.Then1 Inv-loop μ-loop
-in-turn c = c .before .before
+abbrev listed : tie.After-run-chunks-arg → tie.After-list-chunks
+listed c = c .before .before .before
 
-abbrev called : tie.After-slice-known2 Inv-loop μ-loop → tie.After-sample-rows Inv-loop μ-loop
-called c = c .before .before
+abbrev first : tie.After-list-chunks → tie.After-lane-samples
+first c = with-x (with-y (with-z (c .before)))
 
-abbrev past : tie.Else1 Inv-loop μ-loop → tie.At-loop Inv-loop μ-loop
-past c = c .before .before
+told : (c : tie.After-struct-told) → InWords (start c .args .grid)
+told c = in-words (c .struct-told .given)
 
-loop-holds : tie.Need-loop-holds Inv-loop μ-loop
-loop-holds c =
-    let p = begun c .pre in
-    let z = p .cell .zs in (
-      layers-begin _ _ (omega arith) (omega arith) (omega arith) (omega arith) (omega arith) (omega (arith, p .side)),
-      fresh-slots,
+-- The samples of each axis, at the grid's own numbers.
+xs-of : (c : tie.After-lane-samples)
+    → let a = at-x c .args in
+    LaneSamples (a .grid .xorigin) (a .grid .xstep) (a .parent .x) (a .parent .xend) (c .lane-samples .result)
+xs-of c =
+    let f = told (c .before .before) in
+    rw (toZ-ofZ (f .xorigin), toZ-ofZ (f .xstep)) at (c .lane-samples .ensures)
+
+ys-of : (c : tie.After-lane-samples2)
+    → let a = at-x (with-x c) .args in
+    LaneSamples (a .grid .yorigin) (a .grid .ystep) (a .parent .y) (a .parent .yend) (c .lane-samples2 .result)
+ys-of c =
+    let f = told (with-x c .before .before) in
+    rw (toZ-ofZ (f .yorigin), toZ-ofZ (f .ystep)) at (c .lane-samples2 .ensures)
+
+zs-of : (c : tie.After-lane-samples3)
+    → let a = at-x (with-x (with-y c)) .args in
+    LaneSamples (a .grid .zorigin) (a .grid .zstep) (a .parent .z) (a .parent .zend) (c .lane-samples3 .result)
+zs-of c =
+    let f = told (with-x (with-y c) .before .before) in
+    rw (toZ-ofZ (f .zorigin), toZ-ofZ (f .zstep)) at (c .lane-samples3 .ensures)
+
+lane-samples-requires : tie.Need-lane-samples-requires
+lane-samples-requires c κs =
+    let p = start (c .before) .pre .0 in
+    let f = told (c .before) in
+    let d = small true _ (p .ready .fault) in
+    let x = x-span true _ _ (p .cell) (p .ready .fault) in
+    record { span = span-words (f .xorigin) (f .xstep) x; small = omega (arith, d .width, p .cell .xs) }
+
+columns-requires : tie.Need-columns-requires
+columns-requires c κs = search needs
+
+lane-samples-requires-2 : tie.Need-lane-samples-requires-2
+lane-samples-requires-2 c κs =
+    let t = c .before .before .before .before .before in
+    let p = start t .pre .0 in
+    let f = told t in
+    let d = small true _ (p .ready .fault) in
+    let y = y-span true _ _ (p .cell) (p .ready .fault) in
+    record { span = span-words (f .yorigin) (f .ystep) y; small = omega (arith, d .height, p .cell .ys) }
+
+lane-samples-requires-3 : tie.Need-lane-samples-requires-3
+lane-samples-requires-3 c κs =
+    let t = with-x (c .before .before) .before .before in
+    let p = start t .pre .0 in
+    let f = told t in
+    let d = small true _ (p .ready .fault) in
+    let z = z-span _ _ (p .cell) (p .ready .fault) in
+    record { span = span-words (f .zorigin) (f .zstep) z; small = omega (arith, d .depth, p .cell .zs) }
+
+list-chunks-requires : tie.Need-list-chunks-requires
+list-chunks-requires c κs =
+    let z = with-z c in
+    let p = at-x (with-x (with-y z)) .pre .0 in (
+      record {
+        ready = p .ready;
+        cell = p .cell;
+        side = p .side;
+        rows = ys-of (with-y z);
+        layers = zs-of z;
+      },
+      (refl, refl, refl),
     )
 
-sub-z : tie.Need-sub-z Inv-loop μ-loop
-sub-z c = down-in (at-test c .loop .inv .0 .place) (c .if1 .taken) .0
-
-sample-rows-requires : tie.Need-sample-rows-requires Inv-loop μ-loop
-sample-rows-requires c κs =
-    let t = in-turn c in
-    let i = at-test t .loop .inv in
+run-chunks-requires : tie.Need-run-chunks-requires
+run-chunks-requires c κs =
+    let t = listed c in
+    let p = at-x (first t) .pre in
     record {
-      all = samples-again (start (at-test t) .pre) (i .0 .place .size);
-      z-in = down-in (i .0 .place) (t .if1 .taken) .1;
-      slots = i .1;
+      runs = sound-runs (p .0 .sound);
+      few = omega (arith, t .list-chunks .ensures .few, chunks-few (p .0) .count);
+      size = p .1;
     }
 
-add-count : tie.Need-add-count Inv-loop μ-loop
-add-count c =
-    let t = in-turn (called c .before) in
-    let l = at-test t in
-    let sum = down-sum (l .loop .inv .0 .place) (t .if1 .taken) (called c .sample-rows .ensures .0 .bound) in
-    omega (arith, sound-length (start l .pre .sound), sum)
+settle-chunks-requires : tie.Need-settle-chunks-requires
+settle-chunks-requires c κs =
+    let u = c .before .before in
+    let t = listed (u .before) in
+    let x = first t in
+    let p = at-x x .pre .0 in
+    let w = u .run-chunks .ensures in
+    record {
+      all = p;
+      room = omega (arith, w .within);
+      placed = placed-run p w _ (with-y (with-z (t .before)) .before .before .before .columns .ensures) (xs-of x)
+          (t .list-chunks .ensures);
+    }
 
-loop-less : tie.Need-loop-less Inv-loop μ-loop
-loop-less c =
-    let t = in-turn (called c .before) in
-    omega (arith, t .if1 .taken, down-in (at-test t .loop .inv .0 .place) (t .if1 .taken) .0)
+same-length : tie.Need-same-length
+same-length c = search needs
 
-loop-again : tie.Need-loop-again Inv-loop μ-loop
-loop-again c =
-    let v = called c .sample-rows in
-    let t = in-turn (called c .before) in
-    let i = at-test t .loop .inv in
-    let kept = v .kept .1 .1 .1 .1 .1 in
-    (layers-again (i .0) (t .if1 .taken) (v .ensures .0) (kept .0), v .ensures .1)
-
-same-length : tie.Need-same-length Inv-loop μ-loop
-same-length c = past c .loop .inv .0 .place .size
-
-returns : tie.Need-returns Inv-loop μ-loop
-returns c = layers-done (past c .loop .inv .0) (omega arith) (omega arith)
+returns : tie.Need-returns
+returns c = search needs
 
 pub sample-layers-spec : {M : Type 1} → statement M
 sample-layers-spec =
     tie.close
     (tie.spec
-    Inv-loop
-    μ-loop
-    loop-holds
-    sub-z
-    sample-rows-requires
-    add-count
-    loop-less
-    loop-again
+    lane-samples-requires
+    columns-requires
+    lane-samples-requires-2
+    lane-samples-requires-3
+    list-chunks-requires
+    run-chunks-requires
+    settle-chunks-requires
     same-length
     returns)

@@ -1,0 +1,51 @@
+-- A chunk that is hidden, or one that was run.
+use borrow.Author.Needs.{needs}
+use Rattle.solid_samples.proofs.ChunkLaws.{hidden-chunk}
+use Rattle.solid_samples.proofs.settle.settle_place.Statement.{statement}
+use Rattle.solid_samples.proofs.settle.settle_place.Tie as tie
+
+-- The start, from the test.
+abbrev start : tie.After-slice-known → tie.Start
+start c = c .before .before
+
+returns : tie.Need-returns
+returns c =
+    let p = start (c .before) .pre in
+    hidden-chunk (p .all .ready) (p .all .cell) (p .z-in) (p .placed .hidden (c .if1 .taken))
+
+mul-values : tie.Need-mul-values
+mul-values c = search needs
+
+add-values : tie.Need-add-values
+add-values c = search needs
+
+mul-values-2 : tie.Need-mul-values-2
+mul-values-2 c = search needs
+
+element-copy-out-values : tie.Need-element-copy-out-values
+element-copy-out-values c = search needs
+
+settle-chunk-requires : tie.Need-settle-chunk-requires
+settle-chunk-requires c κs =
+    let t = c .before .before in
+    let p = start (t .before) .pre in
+    record { all = p .all; y-in = p .y-in; z-in = p .z-in; values = p .placed .known (t .if1 .left) }
+
+same-length : tie.Need-same-length
+same-length c = search needs
+
+returns-2 : tie.Need-returns-2
+returns-2 c = search needs
+
+pub settle-place-spec : {M : Type 1} → statement M
+settle-place-spec =
+    tie.close
+    (tie.spec
+    returns
+    mul-values
+    add-values
+    mul-values-2
+    element-copy-out-values
+    settle-chunk-requires
+    same-length
+    returns-2)
