@@ -1,12 +1,15 @@
-// Eight children of a flat region, run together: the box of each, one a lane.
+// Eight children of a flat region, run together: the box of each, one a lane, and the run that a child belongs to.
 use fixed::clause::Bounds;
 use picture::grid::Grid;
+use range_sweep::ENDS;
+use range_sweep::run_boxes;
 use walk::cell::Cell;
 use walk::cell::flat_bounds;
 use walk::cell::lesser;
 use walk::children::child;
 ghost use Rattle.fixed.specs.Shapes.{boxIn};
 ghost use Rattle.child_lanes.specs.ChildLanes.{ForChildBox, laneChild, ChildBox, ForBoxes, ChildBoxes};
+ghost use Rattle.child_lanes.specs.ChildLanes.{ForRun, Ran};
 
 // The box of the child of lane k: past the last child that one's again, so that every lane runs on a box.
 fn child_box(grid: Grid, parent: Cell, side: u32, m: u32, end: u32, k: u32) -> Bounds
@@ -56,4 +59,27 @@ pub fn child_boxes(grid: Grid, parent: Cell, side: u32, m: u32, end: u32) -> [[i
     r[4] = zl;
     r[5] = zh;
     r
+}
+
+// Before each child in turn: the eight from a multiple of eight on are run when the first of them comes, and `last` is the
+// slot of their result for the others.
+pub fn run_children(
+    code: &[u64],
+    grid: Grid,
+    parent: Cell,
+    side: u32,
+    m: u32,
+    end: u32,
+    last: usize,
+    ends: &mut [[i32; 8]; ENDS],
+    choices: &mut [[u8; 8]],
+) -> usize
+    requires { ⌜ ForRun (now code) grid parent side m end last (now ends) (now choices) ⌝ }
+    ensures { λ r. ⌜ Ran (now (code .entry)) grid parent side m (now (ends .exit)) (now (choices .exit)) r ⌝ }
+{
+    if m % 8 == 0 {
+        let bounds = child_boxes(grid, parent, side, m, end);
+        return run_boxes(code, &bounds, ends, choices);
+    }
+    last
 }
