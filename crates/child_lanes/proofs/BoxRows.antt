@@ -6,13 +6,14 @@ use lib.Dec.{eqb}
 use lib.IntN.{ℤ}
 use lib.ListN.{length, getD, set, drop}
 use lib.Seq.{getD-drop}
-use Prim.Native.Nat.{ℕ, suc, _+_, _≤_, _<_}
+use Prim.Native.Nat.{ℕ, suc, _+_, _-_, _≤_, _<_}
 use native.Mathlib.Nat.{add-zero}
 use native.Mathlib.Omega.{arith}
 use borrow.Author.Tests.{eqb-true, eqb-false}
 use mir.Syntax.{w32}
 use Rattle.rules.specs.Values.{Range, range, Box}
-use Rattle.rules.specs.Drawings.{Region}
+use Rattle.rules.specs.Drawings.{Region, lesser}
+use Rattle.rules.proofs.Regions.{lesser-most}
 use Rattle.rules.proofs.EndValues.{EndValues}
 use Rattle.rules.proofs.Words.{read, both}
 use Rattle.lanes.specs.Lanes.{laneCount}
@@ -77,3 +78,7 @@ pub first-left : (qs : List Region) (n : ℕ) (d : Region) {q : Region} {rs : Li
     → getD qs n d ≡ q
 first-left qs n d e =
     ap (λ i. getD qs i d) (sym (add-zero n)) ∙ sym (getD-drop n qs 0 d) ∙ ap (λ (l : List Region). getD l 0 d) e
+
+-- A lane's child is one of those that there are.
+pub lane-within : {r l : ℕ} (n e m : ℕ) → r ≡ lesser n (e - 1) → m < e → e ≡ l → r < l
+lane-within n e m q h a = omega (arith, lesser-most n (e - 1))

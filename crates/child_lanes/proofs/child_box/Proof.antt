@@ -3,12 +3,10 @@ use mathlib.Core.Path.{sym, ap, _∙_}
 use mathlib.Core.Bool.{false}
 use lib.ListN.{getD}
 use native.Mathlib.Omega.{arith}
-use Prim.Native.Nat.{_+_, _-_}
 use Rattle.rules.specs.Drawings.{region, boxOf}
-use Rattle.rules.proofs.Regions.{lesser-most}
 use Rattle.picture.specs.Shapes.{gridIn}
 use Rattle.walk.specs.Children.{childrenIn}
-use Rattle.child_lanes.proofs.BoxRows.{first-left}
+use Rattle.child_lanes.proofs.BoxRows.{first-left, lane-within}
 use Rattle.child_lanes.specs.ChildLanes.{boxNumbered}
 use borrow.Author.Needs.{needs}
 use Rattle.child_lanes.proofs.child_box.Statement.{statement}
@@ -28,7 +26,7 @@ child-requires c κs =
     let p = c .before .pre .boxes in
     record {
       parent = p .children;
-      more = omega (arith, c .lesser .ensures, lesser-most (c .before .args .m + c .before .args .k) (c .before .args .end - 1), p .some, p .all);
+      more = lane-within _ (c .before .args .end) (c .before .args .m) (c .lesser .ensures) (p .some) (p .all);
     }
 
 flat-bounds-requires : tie.Need-flat-bounds-requires
