@@ -2,15 +2,25 @@
 use mathlib.Core.Path.{_≡_}
 use mathlib.Core.Bool.{false}
 use mathlib.Core.List.{List}
-use Prim.Native.Nat.{ℕ, _+_, _%_, _≤_}
+use Prim.Native.Nat.{ℕ, _+_, _%_, _≤_, _<_}
 use lib.IntN.{ℤ}
 use lib.ListN.{length}
 use Rattle.sweep.specs.Chunks.{blockRows}
 use Rattle.picture.specs.Parts.{Blank}
 use Rattle.picture.specs.declared.grid.Grid.{Grid}
-use Rattle.walk.specs.Cells.{Ready, CellOk}
-use Rattle.walk.specs.Walks.{Level, MarksFit, ForLook}
+use Rattle.rules.specs.Values.{Box}
+use Rattle.fixed.specs.Shapes.{rangeIn}
+use Rattle.lanes.specs.Lanes.{laneCount}
+use Rattle.code.specs.Runs.{Bounded}
+use Rattle.range_sweep.specs.Boxes.{column}
+use Rattle.walk.specs.Cells.{Ready, CellOk, CellBox, regionIn}
+use Rattle.walk.specs.Judges.{IsJudged}
+use Rattle.walk.specs.Walks.{Level, MarksFit, ForLook, Looked}
 use Rattle.walk.specs.declared.cell.Cell.{Cell}
+use Rattle.walk.specs.declared.judge.Judgement.{Judgement}
+use Rattle.walk.specs.declared.judge.Outcome.{Outcome}
+use Rattle.walk.specs.declared.look.Seen.{Seen}
+use Rattle.lane_judge.specs.declared.Lane.{Lane}
 
 -- Filling a cell whose columns begin at a byte.
 pub record ForFill (grid : Grid) (c : Cell) (b : List ℕ) : Type 0 where
@@ -18,11 +28,28 @@ pub record ForFill (grid : Grid) (c : Cell) (b : List ℕ) : Type 0 where
   pub cell : CellOk 1 grid c
   pub even : c .x % 8 ≡ 0
 
+-- What is done with an outcome of the judge, over whatever box of the cell it is.
+pub record Settled (ws : List ℕ) (grid : Grid) (c : Cell) (o : Outcome) (b b′ : List ℕ) (v : Seen) : Type 0 where
+  pub over : (whole work next : List ℕ) (base : ℕ) (box : Box) (j : Judgement) → CellBox false grid c box
+      → IsJudged whole ws box base work next j → j .outcome ≡ o
+      → Looked false whole ws grid (regionIn c) b b′ base work next v
+
 -- A look at such a cell.
 pub record ForFlatLook (whole ws : List ℕ) (grid : Grid) (c : Cell) (b work : List ℕ) (base : ℕ) (next : List ℕ)
     : Type 0 where
   pub look : ForLook false whole ws grid c b work base next
   pub even : c .x % 8 ≡ 0
+
+-- The same by a lane that has the words' range and choices over the cell's box.
+pub record ForLaneLook (whole ws : List ℕ) (grid : Grid) (c : Cell) (l : Lane) (cs : List (List ℕ)) (b work : List ℕ)
+    (base : ℕ) (next : List ℕ) : Type 0 where
+  pub flat : ForFlatLook whole ws grid c b work base next
+  pub lane : l .number < laneCount
+  pub rows : length ws ≤ length cs
+  pub box : Box
+  pub of-cell : CellBox false grid c box
+  pub before : List ℕ
+  pub bounded : Bounded ws box before (column (l .number) cs) (rangeIn (l .range))
 
 -- A cell of side n whose bytes are 0, to be visited or with children of side 8.
 pub record ForEights (n : ℕ) (whole ws : List ℕ) (grid : Grid) (c : Cell) (b work next : List ℕ)
