@@ -2,7 +2,7 @@
  * Lezantsiro: the layer core's calls for C.
  *
  * A buffer is a pointer and its length in elements, and stays the caller's: a call keeps no pointer, allocates nothing
- * and uses at most 256 KiB of stack, whatever the tape: the calls with a work buffer up to that, every other call less
+ * and uses at most 384 KiB of stack, whatever the tape: the calls with a work buffer up to that, every other call less
  * than 64 KiB.
  *
  * The calls are proved in a language that knows four things of every buffer of a call. C knows none of them, so the

@@ -1,4 +1,5 @@
-// Eight children of a flat region, run together: the box of each, one a lane, and the run that a child belongs to.
+// Children of a region by their numbers, eight run together: the box of each, one a lane, and in a flat region the run that
+// a child belongs to.
 use fixed::clause::Bounds;
 use picture::grid::Grid;
 use range_sweep::ENDS;
@@ -6,24 +7,35 @@ use range_sweep::run_boxes;
 use walk::cell::Cell;
 use walk::cell::flat_bounds;
 use walk::cell::lesser;
+use walk::cell::solid_bounds;
 use walk::children::child;
 ghost use Rattle.fixed.specs.Shapes.{boxIn};
-ghost use Rattle.child_lanes.specs.ChildLanes.{ForChildBox, laneChild, ChildBox, ForBoxes, ChildBoxes};
-ghost use Rattle.child_lanes.specs.ChildLanes.{ForRun, Ran};
+ghost use Rattle.child_lanes.specs.ChildLanes.{ForChildBox, ChildBox, ForBoxes, ChildBoxes};
+ghost use Rattle.child_lanes.specs.ChildLanes.{ForRunBy, RanBy, ForFollowing, Following, ForRun, Ran};
 
-// The box of the child of lane k: past the last child that one's again, so that every lane runs on a box.
-fn child_box(grid: Grid, parent: Cell, side: u32, m: u32, end: u32, k: u32) -> Bounds
-    requires { ⌜ ForChildBox grid parent side m end k ⌝ }
-    ensures { λ r. ⌜ ChildBox grid parent side (laneChild m end k) (boxIn r) ⌝ }
+// The box of child number n of a solid's region or of a flat one.
+fn child_box(solid: bool, grid: Grid, parent: Cell, side: u32, n: u32) -> Bounds
+    requires { ⌜ ForChildBox solid grid parent side n ⌝ }
+    ensures { λ r. ⌜ ChildBox solid grid parent side n (boxIn r) ⌝ }
 {
-    let c = child(parent, side, lesser(m + k, end - 1));
-    flat_bounds(grid, c)
+    let c = child(parent, side, n);
+    if solid {
+        solid_bounds(grid, c)
+    } else {
+        flat_bounds(grid, c)
+    }
 }
 
-// The boxes of eight children from number m on, of `end` in all: two rows an axis.
-pub fn child_boxes(grid: Grid, parent: Cell, side: u32, m: u32, end: u32) -> [[i32; 8]; 6]
-    requires { ⌜ ForBoxes grid parent side m end ⌝ }
-    ensures { λ r. ⌜ ChildBoxes grid parent side m end r ⌝ }
+// The boxes of the children of eight numbers: two rows an axis.
+pub fn child_boxes(
+    solid: bool,
+    grid: Grid,
+    parent: Cell,
+    side: u32,
+    numbers: [u32; 8],
+) -> [[i32; 8]; 6]
+    requires { ⌜ ForBoxes solid grid parent side numbers ⌝ }
+    ensures { λ r. ⌜ ChildBoxes solid grid parent side numbers r ⌝ }
 {
     let mut xl = [0i32; 8];
     let mut xh = [0i32; 8];
@@ -33,7 +45,7 @@ pub fn child_boxes(grid: Grid, parent: Cell, side: u32, m: u32, end: u32) -> [[i
     let mut zh = [0i32; 8];
     let mut k = 0;
     while k < 8 {
-        let b = child_box(grid, parent, side, m, end, k as u32);
+        let b = child_box(solid, grid, parent, side, numbers[k]);
         let xs = b.xs;
         let ys = b.ys;
         let zs = b.zs;
@@ -61,8 +73,41 @@ pub fn child_boxes(grid: Grid, parent: Cell, side: u32, m: u32, end: u32) -> [[i
     r
 }
 
-// Before each child in turn: the eight from a multiple of eight on are run when the first of them comes, and `last` is the
-// slot of their result for the others.
+// The children of eight numbers are run together: what is told is the slot of their result.
+pub fn run_numbered(
+    code: &[u64],
+    solid: bool,
+    grid: Grid,
+    parent: Cell,
+    side: u32,
+    numbers: [u32; 8],
+    ends: &mut [[i32; 8]; ENDS],
+    choices: &mut [[u8; 8]],
+) -> usize
+    requires { ⌜ ForRunBy solid (now code) grid parent side numbers (now ends) (now choices) ⌝ }
+    ensures { λ r. ⌜ RanBy solid (now (code .entry)) grid parent side numbers
+        (now (ends .exit)) (now (choices .exit)) r ⌝ }
+{
+    let bounds = child_boxes(solid, grid, parent, side, numbers);
+    run_boxes(code, &bounds, ends, choices)
+}
+
+// Eight numbers from m on: past the last child that one's again, so that every lane runs on a box.
+fn following(m: u32, end: u32) -> [u32; 8]
+    requires { ⌜ ForFollowing m end ⌝ }
+    ensures { λ r. ⌜ Following m end r ⌝ }
+{
+    let mut r = [0u32; 8];
+    let mut k = 0;
+    while k < 8 {
+        r[k] = lesser(m + k as u32, end - 1);
+        k += 1;
+    }
+    r
+}
+
+// Before each child of a flat region in turn: the eight from a multiple of eight on are run when the first of them comes,
+// and `last` is the slot of their result for the others.
 pub fn run_children(
     code: &[u64],
     grid: Grid,
@@ -78,8 +123,8 @@ pub fn run_children(
     ensures { λ r. ⌜ Ran (now (code .entry)) grid parent side m (now (ends .exit)) (now (choices .exit)) r ⌝ }
 {
     if m % 8 == 0 {
-        let bounds = child_boxes(grid, parent, side, m, end);
-        return run_boxes(code, &bounds, ends, choices);
+        let numbers = following(m, end);
+        return run_numbered(code, false, grid, parent, side, numbers, ends, choices);
     }
     last
 }

@@ -3,6 +3,7 @@
 mod squares;
 
 use crate::squares::clipped;
+use crate::squares::low_size;
 use crate::squares::low_squares;
 use crate::squares::sizes;
 use fixed::value;
@@ -17,8 +18,8 @@ pub fn splat(v: i32) -> [i32; 8]
     [v; 8]
 }
 
-// In the two that follow a lane may hold the one number of 32 bits that is no value, so the negative is taken by a
-// difference, which is clamped.
+// In the two that follow a lane may hold the one number of 32 bits that is no value: so the negative is taken by a
+// difference, which is clamped, and of a size the lowest 31 bits.
 pub fn negate(a: [i32; 8]) -> [i32; 8]
     ensures { λ r. ⌜ OneOfValues negℤ a r ⌝ }
 {
@@ -34,10 +35,11 @@ pub fn negate(a: [i32; 8]) -> [i32; 8]
 pub fn absolute(a: [i32; 8]) -> [i32; 8]
     ensures { λ r. ⌜ OneOfValues absolute a r ⌝ }
 {
+    let n = sizes(a);
     let mut r = [0i32; 8];
     let mut k = 0;
     while k < 8 {
-        r[k] = value::maximum(a[k], value::subtract(0, a[k]));
+        r[k] = low_size(n[k]);
         k += 1;
     }
     r

@@ -1,6 +1,7 @@
 // Squares of eight values: the sizes, whose products the machine makes several at once, and then the greatest value
 // where a size is past the last whose square is a value. Only a test of 32 bits is made side by side.
 ghost use mathlib.Core.Path.{_≡_};
+ghost use Prim.Native.Nat.{_%_};
 ghost use lib.IntN.{pos, natAbs};
 ghost use Rattle.lanes.specs.Squares.{Sizes, lowSquare, clippedSquare, LowSquares, Clipped};
 
@@ -49,6 +50,13 @@ fn size_of(a: i32) -> u32
     } else {
         a as u32
     }
+}
+
+// The low 31 bits: of a value's size all.
+pub fn low_size(n: u32) -> i32
+    ensures { λ r. ⌜ r ≡ pos (n % 2147483648) ⌝ }
+{
+    (n % 0x8000_0000) as i32
 }
 
 // The low 31 bits of the square.

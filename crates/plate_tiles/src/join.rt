@@ -7,6 +7,7 @@ use crate::tiles::tile_count;
 use flat_tiles::tiles::visit_tile;
 use picture::grid::Grid;
 use sweep::BLOCK;
+use tape::CLAUSE_LIMIT;
 ghost use mathlib.Core.Path.{_≡_};
 ghost use mathlib.Core.Bool.{false};
 ghost use Prim.Native.Nat.{ℕ};
@@ -39,7 +40,18 @@ fn join_turn(
     }
     let cell = tile(grid, m);
     let mut slots = [[0i32; 8]; BLOCK];
-    visit_tile(code, grid, cell, blank, work, first, second, &mut slots);
+    let mut choices = [[0u8; 8]; CLAUSE_LIMIT];
+    visit_tile(
+        code,
+        grid,
+        cell,
+        blank,
+        work,
+        first,
+        second,
+        &mut slots,
+        &mut choices,
+    );
     join_cell(blank, picture, grid, cell);
     clear_cell(blank, grid, cell)
 }

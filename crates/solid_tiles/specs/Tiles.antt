@@ -18,8 +18,11 @@ pub record ForSolid (whole : List ℕ) (grid : Grid) (b work l₁ l₂ l₃ : Li
   pub second : length whole ≤ length l₂
   pub third : length whole ≤ length l₃
 
--- At a cell of side n.
-pub record ForTiles (n : ℕ) (whole : List ℕ) (grid : Grid) (c : Cell) (b work l₁ l₂ l₃ : List ℕ) : Type 0 where
+-- At a cell of side n, with a row of choices for each word, twice.
+pub record ForTiles (n : ℕ) (whole : List ℕ) (grid : Grid) (c : Cell) (b work l₁ l₂ l₃ : List ℕ)
+    (cs ds : List (List ℕ)) : Type 0 where
   pub tile : ForSolid whole grid b work l₁ l₂ l₃
   pub cell : CellOk (grid .depth) grid c
   pub side : c .side ≡ n
+  pub rows : length whole ≤ length cs
+  pub rows-below : length whole ≤ length ds

@@ -3,6 +3,7 @@ use picture::grid::Grid;
 use picture::heights::clear;
 use solid_blocks::look::look;
 use solid_blocks::sixteens::sixteens;
+use tape::CLAUSE_LIMIT;
 use walk::cell::Cell;
 use walk::cell::cell_at;
 use walk::children::child;
@@ -27,9 +28,11 @@ pub fn visit_tile(
     first: &mut [u64],
     second: &mut [u64],
     third: &mut [u64],
+    choices: &mut [[u8; 8]],
+    below: &mut [[u8; 8]],
 ) -> u64
     requires { ⌜ ForTiles 64 (now whole) grid cell
-        (now picture) (now work) (now first) (now second) (now third) ⌝ }
+        (now picture) (now work) (now first) (now second) (now third) (now choices) (now below) ⌝ }
     ensures { λ r. ⌜ Visits true solidBound (now (whole .entry)) grid below64 (regionIn cell)
         (now (picture .entry)) (now (picture .exit)) r ⌝ }
 {
@@ -38,7 +41,18 @@ pub fn visit_tile(
         Seen::Done(count) => count,
         Seen::Open(start) => {
             let short = &first[start..];
-            let inside = sixteens(whole, short, grid, cell, picture, work, second, third);
+            let inside = sixteens(
+                whole,
+                short,
+                grid,
+                cell,
+                picture,
+                work,
+                second,
+                third,
+                choices,
+                below,
+            );
             whole.len() as u64 + inside
         }
     }
@@ -53,9 +67,11 @@ fn tiles(
     first: &mut [u64],
     second: &mut [u64],
     third: &mut [u64],
+    choices: &mut [[u8; 8]],
+    below: &mut [[u8; 8]],
 ) -> u64
     requires { ⌜ ForTiles sizeLimit (now whole) grid parent
-        (now picture) (now work) (now first) (now second) (now third) ⌝ }
+        (now picture) (now work) (now first) (now second) (now third) (now choices) (now below) ⌝ }
     ensures { λ r. ⌜ Folds true (512 * solidBound) (now (whole .entry)) grid below64 (childrenIn parent 64)
         (now (picture .entry)) (now (picture .exit)) r ⌝ }
 {
@@ -64,14 +80,25 @@ fn tiles(
     let mut m = 0;
     while m < end {
         let cell = child(parent, 64, m);
-        count += visit_tile(whole, grid, cell, picture, work, first, second, third);
+        count += visit_tile(
+            whole,
+            grid,
+            cell,
+            picture,
+            work,
+            first,
+            second,
+            third,
+            choices,
+            below,
+        );
         m += 1;
     }
     count
 }
 
 // The whole drawing, whatever the picture held. The buffers of the levels are lent: a short tape is no longer than the
-// tape.
+// tape. Choices are made here, for the regions of side 16 and for those of side 4 in them: 48 KiB each.
 pub fn tile_solid(
     whole: &[u64],
     grid: Grid,
@@ -86,5 +113,18 @@ pub fn tile_solid(
 {
     clear(picture);
     let all = cell_at(grid, grid.depth, 0, 0, 0, 512);
-    tiles(whole, grid, all, picture, work, first, second, third)
+    let mut choices = [[0u8; 8]; CLAUSE_LIMIT];
+    let mut below = [[0u8; 8]; CLAUSE_LIMIT];
+    tiles(
+        whole,
+        grid,
+        all,
+        picture,
+        work,
+        first,
+        second,
+        third,
+        &mut choices,
+        &mut below,
+    )
 }

@@ -2,7 +2,7 @@
 use mathlib.Core.Path.{_≡_}
 use mathlib.Core.Bool.{true, false}
 use mathlib.Core.List.{List}
-use Prim.Native.Nat.{ℕ, _*_, _<_}
+use Prim.Native.Nat.{ℕ, _*_, _≤_, _<_}
 use lib.IntN.{ℤ}
 use lib.ListN.{length, replicate}
 use Rattle.sweep.specs.Chunks.{blockRows}
@@ -41,9 +41,10 @@ pub record ForRect (whole : List ℕ) (grid : Grid) (q : Rectangle) (table b wor
     pub clean : b ≡ replicate (sizeIn false grid) 0
 
 pub record ForTiles (whole : List ℕ) (grid : Grid) (q : Rectangle) (table b work first second : List ℕ)
-    (slots : List (List ℤ)) : Type 0 where
+    (slots : List (List ℤ)) (choices : List (List ℕ)) : Type 0 where
   pub rect : ForRect whole grid q table b work first second
   pub size : length slots ≡ blockRows
+  pub rows : length whole ≤ length choices
 
 pub record TilesShared (whole : List ℕ) (grid : Grid) (q : Rectangle) (table table′ b b′ : List ℕ) (c : ℕ) : Type 0 where
   pub shares : (n : ℕ) → Passed n whole table

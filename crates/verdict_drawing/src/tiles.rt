@@ -3,6 +3,7 @@ use picture::grid::Grid;
 use rectangle::Rectangle;
 use rectangle::tiles_along;
 use sweep::BLOCK;
+use tape::CLAUSE_LIMIT;
 use verdict_tiles::tile::table_tile;
 ghost use mathlib.Core.Path.{_≡_};
 ghost use mathlib.Core.Bool.{false};
@@ -32,9 +33,10 @@ fn table_tiles(
     first: &mut [u64],
     second: &mut [u64],
     slots: &mut [[i32; 8]; BLOCK],
+    choices: &mut [[u8; 8]],
 ) -> u64
     requires { ⌜ ForTiles (now whole) grid rectangle (now table) (now picture) (now work) (now first) (now second)
-        (now slots) ⌝ }
+        (now slots) (now choices) ⌝ }
     ensures { λ r. ⌜ TilesShared (now (whole .entry)) grid rectangle (now (table .entry)) (now (table .exit))
         (now (picture .entry)) (now (picture .exit)) r ⌝ }
 {
@@ -53,6 +55,7 @@ fn table_tiles(
             first,
             second,
             slots,
+            choices,
         );
         k += 1;
     }
@@ -74,6 +77,7 @@ pub fn rectangle_tiles(
         (now (picture .entry)) (now (picture .exit)) r ⌝ }
 {
     let mut slots = [[0i32; 8]; BLOCK];
+    let mut choices = [[0u8; 8]; CLAUSE_LIMIT];
     table_tiles(
         whole,
         grid,
@@ -84,5 +88,6 @@ pub fn rectangle_tiles(
         first,
         second,
         &mut slots,
+        &mut choices,
     )
 }

@@ -50,19 +50,20 @@ TileApart grid i b b′ =
     let y = 64 * (i / across grid) in
     Apart (grid .width) x (x + 64) y (y + 64) b b′
 
--- A tile, with what is lent to draw it, and a table that passes.
+-- A tile, with what is lent to draw it, a row of choices for each word, and a table that passes.
 pub record ForShared (whole : List ℕ) (grid : Grid) (i : ℕ) (table picture work first second : List ℕ)
-    (slots : List (List ℤ)) : Type 0 where
+    (slots : List (List ℤ)) (choices : List (List ℕ)) : Type 0 where
   pub lent : Lent whole grid picture work first second
   pub tile : ForTile grid i
   pub passes : Passes whole table
   pub blank : TileBlank grid i picture
   pub size : length slots ≡ blockRows
+  pub rows : length whole ≤ length choices
 
 -- The same of a tile that is known.
 pub record ForKnown (whole : List ℕ) (grid : Grid) (i : ℕ) (table picture work first second : List ℕ)
-    (slots : List (List ℤ)) : Type 0 where
-  pub asked : ForShared whole grid i table picture work first second slots
+    (slots : List (List ℤ)) (choices : List (List ℕ)) : Type 0 where
+  pub asked : ForShared whole grid i table picture work first second slots choices
   pub known : verdictIn (entryIn i table) ≡ 0 → ⊥
 
 pub record KnownDrawn (whole : List ℕ) (grid : Grid) (i : ℕ) (table b b′ : List ℕ) (c : ℕ) : Type 0 where

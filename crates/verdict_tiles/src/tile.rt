@@ -23,9 +23,10 @@ fn known_tile(
     first: &mut [u64],
     second: &mut [u64],
     slots: &mut [[i32; 8]; BLOCK],
+    choices: &mut [[u8; 8]],
 ) -> u64
     requires { ⌜ ForKnown (now whole) grid number (now table) (now picture) (now work) (now first) (now second)
-        (now slots) ⌝ }
+        (now slots) (now choices) ⌝ }
     ensures { λ r. ⌜ KnownDrawn (now (whole .entry)) grid number (now (table .entry))
         (now (picture .entry)) (now (picture .exit)) r ⌝ }
     ensures { λ _. ⌜ length (now (slots .exit)) ≡ blockRows ⌝ }
@@ -43,7 +44,17 @@ fn known_tile(
     }
     let start = kept_words(whole, table, at, work, first);
     let kept = &first[start..];
-    eights(whole, kept, grid, cell, picture, work, second, slots)
+    eights(
+        whole,
+        kept,
+        grid,
+        cell,
+        picture,
+        work,
+        second,
+        slots,
+        choices,
+    )
 }
 
 // A tile that the table knows or not: an unknown one is judged and written first, and its own run counted.
@@ -57,9 +68,10 @@ pub fn table_tile(
     first: &mut [u64],
     second: &mut [u64],
     slots: &mut [[i32; 8]; BLOCK],
+    choices: &mut [[u8; 8]],
 ) -> u64
     requires { ⌜ ForShared (now whole) grid number (now table) (now picture) (now work) (now first) (now second)
-        (now slots) ⌝ }
+        (now slots) (now choices) ⌝ }
     ensures { λ r. ⌜ TileShared (now (whole .entry)) grid number (now (table .entry)) (now (table .exit))
         (now (picture .entry)) (now (picture .exit)) r ⌝ }
     ensures { λ _. ⌜ length (now (slots .exit)) ≡ blockRows ⌝ }
@@ -76,6 +88,7 @@ pub fn table_tile(
         first,
         second,
         slots,
+        choices,
     );
     own + inside
 }

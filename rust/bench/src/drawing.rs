@@ -1,7 +1,8 @@
 //! One drawing of a part, by each way: the core's tiles, the plain walk, the core's full drawing.
 
 use crate::plain;
-use layers::{Grid, Tape, raw};
+use layers::raw::{self, Answer};
+use layers::{Grid, Tape};
 
 /// A flat or a solid drawing.
 #[derive(Clone, Copy, PartialEq, Eq)]
@@ -16,6 +17,13 @@ pub enum Way {
     Tiles,
     Plain,
     Full,
+}
+
+/// The two drawings by tiles of a core.
+#[derive(Clone, Copy)]
+pub struct Core {
+    pub flat: fn(&[u8], Grid, &mut [u8], &mut [u8]) -> Answer,
+    pub solid: fn(&[u8], Grid, &mut [u16], &mut [u8]) -> Answer,
 }
 
 /// The picture of either kind, in the core's form, and room to work in.
@@ -44,17 +52,23 @@ impl Canvas {
 
     /// Draws the tape, and returns the count of clauses.
     pub fn draw(&mut self, way: Way, tape: &Tape) -> u64 {
-        let tape = tape.as_bytes();
-        let answer = match (self.kind, way) {
-            (Kind::Flat, Way::Plain) => return plain::tile_flat(tape, self.grid, &mut self.bits),
-            (Kind::Solid, Way::Plain) => return plain::tile_solid(tape, self.grid, &mut self.heights),
-            (Kind::Flat, Way::Tiles) => raw::tile_flat(tape, self.grid, &mut self.bits, &mut self.work),
-            (Kind::Solid, Way::Tiles) => raw::tile_solid(tape, self.grid, &mut self.heights, &mut self.work),
-            (Kind::Flat, Way::Full) => raw::draw_flat(tape, self.grid, &mut self.bits),
-            (Kind::Solid, Way::Full) => raw::draw_solid(tape, self.grid, &mut self.heights),
-        };
-        assert_eq!(answer.number, 0, "refused at clause {}", answer.place);
-        answer.count
+        let bytes = tape.as_bytes();
+        match (self.kind, way) {
+            (_, Way::Tiles) => self.draw_by(Core { flat: raw::tile_flat, solid: raw::tile_solid }, tape),
+            (Kind::Flat, Way::Plain) => plain::tile_flat(bytes, self.grid, &mut self.bits),
+            (Kind::Solid, Way::Plain) => plain::tile_solid(bytes, self.grid, &mut self.heights),
+            (Kind::Flat, Way::Full) => counted(raw::draw_flat(bytes, self.grid, &mut self.bits)),
+            (Kind::Solid, Way::Full) => counted(raw::draw_solid(bytes, self.grid, &mut self.heights)),
+        }
+    }
+
+    /// Draws the tape by the tiles of this core.
+    pub fn draw_by(&mut self, core: Core, tape: &Tape) -> u64 {
+        let (tape, grid) = (tape.as_bytes(), self.grid);
+        counted(match self.kind {
+            Kind::Flat => (core.flat)(tape, grid, &mut self.bits, &mut self.work),
+            Kind::Solid => (core.solid)(tape, grid, &mut self.heights, &mut self.work),
+        })
     }
 
     /// Draws a solid with its slopes, by the core's tiles or by the plain walk.
@@ -63,12 +77,29 @@ impl Canvas {
         if way == Way::Plain {
             return plain::tile_slopes(tape, grid, &mut self.heights, &mut self.slopes);
         }
-        let answer = raw::tile_slopes(tape, grid, &mut self.heights, &mut self.slopes, &mut self.work);
-        assert_eq!(answer.number, 0, "refused at clause {}", answer.place);
-        answer.count
+        counted(raw::tile_slopes(tape, grid, &mut self.heights, &mut self.slopes, &mut self.work))
     }
 
     pub fn same_picture(&self, other: &Canvas) -> bool {
         self.bits == other.bits && self.heights == other.heights && self.slopes == other.slopes
+    }
+}
+
+fn counted(answer: Answer) -> u64 {
+    assert_eq!(answer.number, 0, "refused at clause {}", answer.place);
+    answer.count
+}
+
+/// The grid's box in another number of samples.
+pub fn resized(grid: Grid, sizes: [u32; 3]) -> Grid {
+    let step = |step: i32, old: u32, new: u32| (step as i64 * old.max(1) as i64 / new as i64).max(1) as i32;
+    Grid {
+        width: sizes[0],
+        height: sizes[1],
+        depth: sizes[2],
+        xstep: step(grid.xstep, grid.width, sizes[0]),
+        ystep: step(grid.ystep, grid.height, sizes[1]),
+        zstep: step(grid.zstep, grid.depth, sizes[2]),
+        ..grid
     }
 }

@@ -23,14 +23,25 @@ impl Times {
 const AT_LEAST: Duration = Duration::from_millis(400);
 
 /// Runs the tasks in turn, `runs` times each or more often, and returns the times of each.
-pub fn in_turn<const N: usize>(runs: usize, mut tasks: [&mut dyn FnMut() -> u64; N]) -> [Times; N] {
-    let mut times = std::array::from_fn(|_| Times(Vec::new()));
+pub fn in_turn<const N: usize>(runs: usize, tasks: [&mut dyn FnMut() -> u64; N]) -> [Times; N] {
     let begin = Instant::now();
-    while times[0].0.len() < runs.max(1) || begin.elapsed() < AT_LEAST {
+    in_turn_by(|| begin.elapsed(), runs, AT_LEAST, tasks)
+}
+
+/// The same by a clock of the caller's own, and for as long as the caller says.
+pub fn in_turn_by<const N: usize>(
+    clock: impl Fn() -> Duration,
+    runs: usize,
+    at_least: Duration,
+    mut tasks: [&mut dyn FnMut() -> u64; N],
+) -> [Times; N] {
+    let mut times = std::array::from_fn(|_| Times(Vec::new()));
+    let begin = clock();
+    while times[0].0.len() < runs.max(1) || clock() - begin < at_least {
         for (task, times) in tasks.iter_mut().zip(&mut times) {
-            let start = Instant::now();
+            let start = clock();
             black_box(task());
-            times.0.push(start.elapsed().as_secs_f64() * 1e3);
+            times.0.push((clock() - start).as_secs_f64() * 1e3);
         }
     }
     times

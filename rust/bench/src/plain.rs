@@ -9,6 +9,7 @@ mod run;
 mod shorten;
 mod slopes;
 mod solid;
+mod spans;
 mod word;
 
 pub use flat::{short_lengths, tile_flat};
@@ -19,11 +20,19 @@ pub use word::words;
 /// Slots of any tape.
 const SLOTS: usize = layers::MAX_SLOTS as usize;
 
-/// The short tape of one level of the walk, in a buffer as long as the whole tape; its words end at the buffer's end.
-type Level = Vec<u64>;
+/// What one level of the walk keeps while those below it are at work.
+struct Level {
+    /// The choices of the regions that were run together.
+    choices: Vec<[u8; 8]>,
+    /// The short tape of the region that is visited, in a buffer as long as the whole tape; its words end at its end.
+    short: Vec<u64>,
+}
 
-/// The choices of one run over ranges, a byte a clause of the whole tape.
-type Choices = [u8];
+impl Level {
+    fn new(clauses: usize) -> Level {
+        Level { choices: vec![[0; 8]; clauses], short: vec![0; clauses] }
+    }
+}
 
 /// Sample i of an axis, in the middle of its cell: the sum is a value, so what its parts lose beyond 32 bits is lost in
 /// the sum too.

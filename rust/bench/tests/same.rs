@@ -1,23 +1,9 @@
 //! The plain walk draws the core's picture with the core's count, also on grids whose edges cut regions off.
 
-use bench::drawing::{Canvas, Kind, Way};
+use bench::drawing::{Canvas, Kind, Way, resized};
 use bench::plain::short_lengths;
 use layers::Grid;
 use parts::Part;
-
-/// The grid's box in another number of samples.
-fn resized(grid: Grid, sizes: [u32; 3]) -> Grid {
-    let step = |step: i32, old: u32, new: u32| (step as i64 * old.max(1) as i64 / new as i64).max(1) as i32;
-    Grid {
-        width: sizes[0],
-        height: sizes[1],
-        depth: sizes[2],
-        xstep: step(grid.xstep, grid.width, sizes[0]),
-        ystep: step(grid.ystep, grid.height, sizes[1]),
-        zstep: step(grid.zstep, grid.depth, sizes[2]),
-        ..grid
-    }
-}
 
 fn same(part: &Part, kind: Kind, grid: Grid) {
     let mut tiles = Canvas::new(kind, grid);

@@ -3,29 +3,35 @@ use mathlib.Core.Path.{refl, sym, subst}
 use borrow.Author.Needs.{needs}
 use native.Mathlib.Omega.{arith}
 use Prim.Native.Nat.{_-_}
+use lib.ListN.{getD}
 use Rattle.fixed.specs.Shapes.{boxIn}
 use Rattle.code.specs.Runs.{BoxOk}
 use Rattle.lanes.specs.Lanes.{laneCount}
-use Rattle.child_lanes.specs.ChildLanes.{laneChild, boxNumbered}
+use Rattle.child_lanes.specs.ChildLanes.{boxNumbered}
 use Rattle.child_lanes.proofs.BoxRows.{Filled, none-filled, one-filled, all-filled}
 use Rattle.child_lanes.proofs.child_boxes.Statement.{statement}
 use Rattle.child_lanes.proofs.child_boxes.Tie as tie
 
 abbrev Inv-loop : tie.InvT-loop
-Inv-loop grid parent side m end xl₀ xh₀ yl₀ yh₀ zl₀ zh₀ k₀ xl xh yl yh zl zh k =
-    Filled (λ j. boxNumbered grid parent side (laneChild m end j)) xl xh yl yh zl zh k
+Inv-loop solid grid parent side numbers xl₀ xh₀ yl₀ yh₀ zl₀ zh₀ k₀ xl xh yl yh zl zh k =
+    Filled (λ j. boxNumbered solid grid parent side (getD numbers j 0)) xl xh yl yh zl zh k
 
 abbrev μ-loop : tie.MeasureT-loop
-μ-loop grid parent side m end xl₀ xh₀ yl₀ yh₀ zl₀ zh₀ k₀ xl xh yl yh zl zh k = laneCount - k
+μ-loop solid grid parent side numbers xl₀ xh₀ yl₀ yh₀ zl₀ zh₀ k₀ xl xh yl yh zl zh k = laneCount - k
 
 loop-holds : tie.Need-loop-holds Inv-loop μ-loop
 loop-holds c = none-filled _ refl refl refl refl refl refl
 
-cast-child-box : tie.Need-cast-child-box Inv-loop μ-loop
-cast-child-box c = search needs
+mul-child-box : tie.Need-mul-child-box Inv-loop μ-loop
+mul-child-box c = search needs
+
+array-read-child-box : tie.Need-array-read-child-box Inv-loop μ-loop
+array-read-child-box c = search needs
 
 child-box-requires : tie.Need-child-box-requires Inv-loop μ-loop
-child-box-requires c κs = record { boxes = c .before .before .pre; lane = c .loop-test .taken }
+child-box-requires c κs =
+    let p = c .before .before .pre in
+    record { children = p .children; there = p .there _ (c .loop-test .taken) }
 
 mul-xl : tie.Need-mul-xl Inv-loop μ-loop
 mul-xl c = search needs
@@ -111,7 +117,8 @@ child-boxes-spec =
     Inv-loop
     μ-loop
     loop-holds
-    cast-child-box
+    mul-child-box
+    array-read-child-box
     child-box-requires
     mul-xl
     array-set-from-xl

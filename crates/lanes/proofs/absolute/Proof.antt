@@ -1,45 +1,41 @@
--- `lanes::absolute`: the greater of a lane and what it leaves of 0.
-use mathlib.Core.Path.{_≡_, refl, _∙_}
-use lib.IntN.{pos}
-use borrow.Author.Needs.{needs, sfits-of}
+-- `lanes::absolute`: the size of each lane that holds a value.
+use mathlib.Core.Path.{_≡_, refl, ap, _∙_}
+use lib.IntN.{ℤ, pos, natAbs}
+use lib.ListN.{getD}
+use borrow.Author.Needs.{needs}
 use native.Mathlib.Omega.{arith}
 use mir.Syntax.{w32}
-use mir.Facts.{toZ-ofZ}
-use Prim.Native.Nat.{_-_, _≤_}
-use Rattle.rules.specs.Values.{IsValue, absolute, difference, larger}
-use Rattle.fixed.proofs.Words.{back-two}
-use Rattle.lanes.proofs.LaneLaws.{greater-size}
-use Rattle.lanes.specs.Lanes.{laneCount, lane}
+use Prim.Native.Nat.{_-_, _%_, _≤_}
+use Rattle.rules.specs.Values.{IsValue}
+use Rattle.rules.proofs.Words.{back}
+use Rattle.lanes.specs.Lanes.{laneCount}
 use Rattle.lanes.proofs.LaneLaws.{Below, none-below, one-more, all-below}
 use Rattle.lanes.proofs.absolute.Statement.{statement}
 use Rattle.lanes.proofs.absolute.Tie as tie
 
 abbrev Inv-loop : tie.InvT-loop
-Inv-loop a r₀ k₀ r k = (k ≤ laneCount) × Below (pos 0) (λ j v. IsValue (lane a j) → v ≡ absolute (lane a j)) r k
+Inv-loop n r₀ k₀ r k = (k ≤ laneCount) × Below (pos 0) (λ j v. v ≡ pos (getD n j 0 % 2147483648)) r k
 
 abbrev μ-loop : tie.MeasureT-loop
-μ-loop a r₀ k₀ r k = laneCount - k
+μ-loop n r₀ k₀ r k = laneCount - k
+
+all-bits : (z : ℤ) → IsValue z → natAbs z % 2147483648 ≡ natAbs z
+all-bits z h = omega (arith, h .bound)
+
+sizes-requires : tie.Need-sizes-requires Inv-loop μ-loop
+sizes-requires c κs = search needs
 
 loop-holds : tie.Need-loop-holds Inv-loop μ-loop
 loop-holds c = (omega arith, none-below _ _ _ refl)
 
-mul-maximum : tie.Need-mul-maximum Inv-loop μ-loop
-mul-maximum c = search needs
+mul-low-size : tie.Need-mul-low-size Inv-loop μ-loop
+mul-low-size c = search needs
 
-array-copy-out-maximum : tie.Need-array-copy-out-maximum Inv-loop μ-loop
-array-copy-out-maximum c = search needs
+array-read-low-size : tie.Need-array-read-low-size Inv-loop μ-loop
+array-read-low-size c = search needs
 
-mul-subtract : tie.Need-mul-subtract Inv-loop μ-loop
-mul-subtract c = search needs
-
-array-copy-out-subtract : tie.Need-array-copy-out-subtract Inv-loop μ-loop
-array-copy-out-subtract c = search needs
-
-subtract-requires : tie.Need-subtract-requires Inv-loop μ-loop
-subtract-requires c κs = search needs
-
-maximum-requires : tie.Need-maximum-requires Inv-loop μ-loop
-maximum-requires c κs = search needs
+low-size-requires : tie.Need-low-size-requires Inv-loop μ-loop
+low-size-requires c κs = search needs
 
 mul-r : tie.Need-mul-r Inv-loop μ-loop
 mul-r c = search needs
@@ -55,21 +51,18 @@ loop-less c = search needs
 
 loop-again : tie.Need-loop-again Inv-loop μ-loop
 loop-again c =
-    let x = c .before .before .before in
-    let l = x .before .before .loop in
-    let n = c .before .subtract in
-    let v = c .maximum in
-    let e = toZ-ofZ (sfits-of (x .maximum-arg .given)) in
-    let g = toZ-ofZ (sfits-of (c .before .before .subtract-arg .given)) in (
+    let x = c .before in
+    let l = x .before .loop in (
       omega arith,
-      one-more _ _ (l .r) (l .k) _ (x .before .loop-test .taken) (l .inv .1) (λ h.
-          back-two w32 larger (v .result) (v .ok) (v .ensures) e
-          (back-two w32 difference (n .result) (n .ok) (n .ensures) refl g)
-          ∙ greater-size _ h),
+      one-more _ _ (l .r) (l .k) _ (x .loop-test .taken) (l .inv .1)
+          (back w32 (c .low-size .result) (c .low-size .ok) (c .low-size .ensures)),
     )
 
 returns : tie.Need-returns Inv-loop μ-loop
-returns c = record { at = all-below _ _ _ _ (c .loop-test .left) (c .before .loop .inv .1) }
+returns c =
+    let r = all-below _ _ _ _ (c .loop-test .left) (c .before .loop .inv .1) in
+    let s = c .before .before .sizes .ensures in
+    record { at = λ k h v. r k h ∙ ap (λ n. pos (n % 2147483648)) (s .at k h) ∙ ap pos (all-bits _ v) }
 
 pub absolute-spec : {M : Type 1} → statement M
 absolute-spec =
@@ -77,13 +70,11 @@ absolute-spec =
     (tie.spec
     Inv-loop
     μ-loop
+    sizes-requires
     loop-holds
-    mul-maximum
-    array-copy-out-maximum
-    mul-subtract
-    array-copy-out-subtract
-    subtract-requires
-    maximum-requires
+    mul-low-size
+    array-read-low-size
+    low-size-requires
     mul-r
     array-set-from-r
     add-k

@@ -32,11 +32,23 @@ pub fn divide(a: i32, b: i32) -> i32 {
     clamp(above / below - past as i64)
 }
 
-/// The number under the root is below 2^47, so a root that is not whole lies further from the next whole number than
-/// rounding to 53 bits can move it: the whole part needs no settling. By way of i64, since the machine's own conversion to
-/// 64 bits leaves less to be done for numbers that don't fit.
+/// The number under the root is below 2^47. With a half more it has the same whole part of its root and is never square,
+/// so its root lies further from a whole number than rounding to 53 bits can move it. Adding 2^52 less a half leaves that
+/// whole part in the lowest bits: the machine does all of it on several at once, where it converts to whole numbers one by
+/// one.
 pub fn root(a: i32) -> i32 {
-    (a.max(0) as f64 * 65536.0).sqrt() as i64 as i32
+    const HALF_BELOW: f64 = 4_503_599_627_370_495.5;
+    let under = a.max(0) as f64 * 65536.0 + 0.5;
+    (under.sqrt() + HALF_BELOW).to_bits() as i32
+}
+
+/// The square, clamped where the number and not its product of 64 bits is too large, which the machine compares on several
+/// at once.
+pub fn square(a: i32) -> i32 {
+    const LAST: i32 = 11_863_283;
+    let size = a.wrapping_abs();
+    let whole = (size as u32 as u64 * size as u32 as u64) >> 16;
+    if size > LAST { i32::MAX } else { whole as i32 }
 }
 
 /// A range of values, by its ends.
@@ -63,7 +75,7 @@ impl Span {
 
     pub fn square(self) -> Span {
         let size = self.absolute();
-        Span::new(multiply(size.low, size.low), multiply(size.high, size.high))
+        Span::new(square(size.low), square(size.high))
     }
 
     pub fn root(self) -> Span {
@@ -130,6 +142,22 @@ mod tests {
             assert_eq!(Some(found.low), expected.iter().copied().min());
             assert_eq!(Some(found.high), expected.iter().copied().max());
         }
+    }
+
+    /// On both sides of where a root grows by one, for many roots and for the last ones, which are those of squares that are
+    /// clamped.
+    #[test]
+    fn roots_and_squares_are_exact() {
+        let roots = (0..=11_863_283u64).step_by(97).chain(11_863_000..=11_863_283);
+        for r in roots {
+            let grows = ((r * r).div_ceil(65_536)).min(i32::MAX as u64) as i32;
+            for a in [grows.saturating_sub(1), grows, grows.saturating_add(1), r as i32, r as i32 + 1] {
+                let (found, under) = (root(a) as u64, (a.max(0) as u64) << 16);
+                assert!(found * found <= under && under < (found + 1) * (found + 1), "the root of {a}");
+                assert_eq!([square(a), square(-a)], [multiply(a, a); 2], "the square of {a}");
+            }
+        }
+        assert_eq!([root(-1), root(-i32::MAX), square(i32::MAX)], [0, 0, i32::MAX]);
     }
 
     #[test]

@@ -2,10 +2,10 @@
 
 use super::arith::Span;
 use super::lanes::{Block, CHUNKS, Samples, run_chunks};
-use super::run::{Slots, run_ranges};
 use super::shorten::shorten;
+use super::spans::{Spans, run_spans};
 use super::word::words;
-use super::{Choices, Level, SLOTS, axis, sample};
+use super::{Level, SLOTS, axis, sample};
 use layers::Grid;
 
 /// Draws into the picture, whatever it held, and returns the walk's count.
@@ -26,11 +26,10 @@ fn walked(tape: &[u8], grid: Grid, picture: &mut [u8], cut: impl FnMut(u32, usiz
     picture.fill(0);
     let code = words(tape);
     let row = (grid.width as usize).div_ceil(8);
-    let choices = &mut vec![0; code.len()][..];
-    let mut walk =
-        Walk { grid, row, picture, cut, choices, ranges: Slots::new(), values: [[[0; 8]; CHUNKS]; SLOTS], count: 0 };
+    let (ranges, values) = ([Spans::default(); SLOTS], [[[0; 8]; CHUNKS]; SLOTS]);
+    let mut walk = Walk { grid, row, picture, cut, ranges, values, count: 0 };
     let all = Region { x: 0, xend: grid.width, y: 0, yend: grid.height };
-    walk.visit_children(&code, all, 64, &mut [vec![0; code.len()], vec![0; code.len()]]);
+    walk.visit_children(&code, all, 64, &mut [0; 2].map(|_| Level::new(code.len())));
     walk.count
 }
 
@@ -49,45 +48,52 @@ struct Walk<'a, F> {
     row: usize,
     picture: &'a mut [u8],
     cut: F,
-    choices: &'a mut Choices,
-    ranges: Slots,
+    ranges: [Spans; SLOTS],
     values: [Block; SLOTS],
     count: u64,
 }
 
 impl<F: FnMut(u32, usize)> Walk<'_, F> {
+    /// The children of a row, at most eight, are run together before the first is visited. Lanes past the edge run on the
+    /// last child, and are not visited.
     fn visit_children(&mut self, code: &[u64], parent: Region, side: u32, levels: &mut [Level]) {
+        let last = (parent.xend - 1 - parent.x) / side;
         for y in (parent.y..parent.yend).step_by(side as usize) {
-            for x in (parent.x..parent.xend).step_by(side as usize) {
-                let region = Region { x, xend: self.grid.width.min(x + side), y, yend: self.grid.height.min(y + side) };
-                self.visit(code, region, side, levels);
+            let children = std::array::from_fn(|lane| {
+                let x = parent.x + side * last.min(lane as u32);
+                Region { x, xend: parent.xend.min(x + side), y, yend: parent.yend.min(y + side) }
+            });
+            let ranges = run_spans(code, &self.bounds(&children), &mut self.ranges, &mut levels[0].choices);
+            for (lane, &child) in children[..=last as usize].iter().enumerate() {
+                self.visit(code, child, side, ranges.lane(lane), lane, levels);
             }
         }
     }
 
-    fn visit(&mut self, code: &[u64], region: Region, side: u32, levels: &mut [Level]) {
+    /// Visits a region that was run in this lane.
+    fn visit(&mut self, code: &[u64], region: Region, side: u32, range: Span, lane: usize, levels: &mut [Level]) {
         self.count += code.len() as u64;
-        let range = run_ranges(code, self.bounds(region), &mut self.ranges, self.choices);
         if range.high < 0 {
             self.fill(region);
         } else if range.low < 0 {
-            let (next, below) = levels.split_first_mut().expect("a level for every side");
-            let start = shorten(code, self.choices, next);
-            (self.cut)(side, next.len() - start);
+            let (level, below) = levels.split_first_mut().expect("a level for every side");
+            let start = shorten(code, &level.choices, |choice| choice[lane], &mut level.short);
+            let short = &level.short[start..];
+            (self.cut)(side, short.len());
             if below.is_empty() {
-                self.visit_samples(&next[start..], region);
+                self.visit_samples(short, region);
             } else {
-                self.visit_children(&next[start..], region, 8, below);
+                self.visit_children(short, region, 8, below);
             }
         }
     }
 
-    fn bounds(&self, region: Region) -> [Span; 3] {
+    fn bounds(&self, lanes: &[Region; 8]) -> [Spans; 3] {
         let grid = &self.grid;
         [
-            axis(grid.xorigin, grid.xstep, region.x, region.xend),
-            axis(grid.yorigin, grid.ystep, region.y, region.yend),
-            Span::new(grid.zorigin, grid.zorigin),
+            Spans::new(|k| axis(grid.xorigin, grid.xstep, lanes[k].x, lanes[k].xend)),
+            Spans::new(|k| axis(grid.yorigin, grid.ystep, lanes[k].y, lanes[k].yend)),
+            Spans::new(|_| Span::new(grid.zorigin, grid.zorigin)),
         ]
     }
 

@@ -4,19 +4,19 @@ use super::arith::Span;
 use super::lanes::{Block, CHUNKS, Lanes, Samples, run_chunks};
 use super::run::{Slots, run_ranges};
 use super::shorten::shorten;
+use super::spans::{Spans, run_spans};
 use super::word::words;
-use super::{Choices, Level, SLOTS, axis, sample};
+use super::{Level, SLOTS, axis, sample};
 use layers::Grid;
 
 /// Draws into the picture, whatever it held, and returns the walk's count.
 pub fn tile_solid(tape: &[u8], grid: Grid, picture: &mut [u16]) -> u64 {
     picture.fill(0);
     let code = words(tape);
-    let choices = &mut vec![0; code.len()][..];
-    let mut walk = Walk { grid, picture, choices, ranges: Slots::new(), values: [[[0; 8]; CHUNKS]; SLOTS], count: 0 };
+    let (ranges, values) = ([Spans::default(); SLOTS], [[[0; 8]; CHUNKS]; SLOTS]);
+    let mut walk = Walk { grid, picture, range: Slots::new(), ranges, values, count: 0 };
     let all = Region { x: 0, xend: grid.width, y: 0, yend: grid.height, z: 0, zend: grid.depth };
-    let mut levels = [0; 3].map(|_| vec![0; code.len()]);
-    walk.visit_children(&code, all, 64, &mut levels);
+    walk.visit_children(&code, all, 64, &mut [0; 3].map(|_| Level::new(code.len())));
     walk.count
 }
 
@@ -41,46 +41,70 @@ struct Chunk {
 struct Walk<'a> {
     grid: Grid,
     picture: &'a mut [u16],
-    choices: &'a mut Choices,
-    ranges: Slots,
+    /// The slots of one box, and of eight.
+    range: Slots,
+    ranges: [Spans; SLOTS],
     values: [Block; SLOTS],
     count: u64,
 }
 
 impl Walk<'_> {
+    /// Those children that are not hidden are run together, up to eight and of more than one layer, before the first of them
+    /// is visited; tiles are run one by one. A child that is hidden stays so.
     fn visit_children(&mut self, code: &[u64], parent: Region, side: u32, levels: &mut [Level]) {
+        let most = if side == 64 { 1 } else { 8 };
+        let (mut open, mut many) = ([parent; 8], 0);
         for z in (parent.z..parent.zend).step_by(side as usize).rev() {
             for y in (parent.y..parent.yend).step_by(side as usize) {
                 for x in (parent.x..parent.xend).step_by(side as usize) {
-                    let region = Region {
-                        x,
-                        xend: self.grid.width.min(x + side),
-                        y,
-                        yend: self.grid.height.min(y + side),
-                        z,
-                        zend: self.grid.depth.min(z + side),
-                    };
-                    self.visit(code, region, side, levels);
+                    let (xend, yend) = (parent.xend.min(x + side), parent.yend.min(y + side));
+                    let child = Region { x, xend, y, yend, z, zend: parent.zend.min(z + side) };
+                    if !self.is_hidden(child) {
+                        open[many] = child;
+                        many += 1;
+                    }
+                    if many == most {
+                        self.visit_open(code, &open, many, side, levels);
+                        many = 0;
+                    }
                 }
+            }
+        }
+        if many > 0 {
+            self.visit_open(code, &open, many, side, levels);
+        }
+    }
+
+    /// Runs the first `many` children, and visits those that are not hidden when their turn comes. The other lanes run on
+    /// what stands there. One child alone takes less time without lanes.
+    fn visit_open(&mut self, code: &[u64], children: &[Region; 8], many: usize, side: u32, levels: &mut [Level]) {
+        let choices = &mut levels[0].choices;
+        if many == 1 {
+            let first = choices.iter_mut().map(|choice| &mut choice[0]);
+            let range = run_ranges(code, self.bounds(children[0]), &mut self.range, first);
+            return self.visit(code, children[0], side, range, 0, levels);
+        }
+        let ranges = run_spans(code, &self.bounds_of(children), &mut self.ranges, choices);
+        for (lane, &child) in children[..many].iter().enumerate() {
+            if !self.is_hidden(child) {
+                self.visit(code, child, side, ranges.lane(lane), lane, levels);
             }
         }
     }
 
-    fn visit(&mut self, code: &[u64], region: Region, side: u32, levels: &mut [Level]) {
-        if self.is_hidden(region) {
-            return;
-        }
+    /// Visits a region that was run in this lane.
+    fn visit(&mut self, code: &[u64], region: Region, side: u32, range: Span, lane: usize, levels: &mut [Level]) {
         self.count += code.len() as u64;
-        let range = run_ranges(code, self.bounds(region), &mut self.ranges, self.choices);
         if range.high < 0 {
             self.fill(region);
         } else if range.low < 0 {
-            let (next, below) = levels.split_first_mut().expect("a level for every side");
-            let start = shorten(code, self.choices, next);
+            let (level, below) = levels.split_first_mut().expect("a level for every side");
+            let start = shorten(code, &level.choices, |choice| choice[lane], &mut level.short);
+            let short = &level.short[start..];
             if below.is_empty() {
-                self.visit_samples(&next[start..], region);
+                self.visit_samples(short, region);
             } else {
-                self.visit_children(&next[start..], region, side / 4, below);
+                self.visit_children(short, region, side / 4, below);
             }
         }
     }
@@ -92,6 +116,11 @@ impl Walk<'_> {
             axis(grid.yorigin, grid.ystep, region.y, region.yend),
             axis(grid.zorigin, grid.zstep, region.z, region.zend),
         ]
+    }
+
+    fn bounds_of(&self, lanes: &[Region; 8]) -> [Spans; 3] {
+        let boxes = lanes.map(|region| self.bounds(region));
+        std::array::from_fn(|axis| Spans::new(|lane| boxes[lane][axis]))
     }
 
     /// Runs those chunks that are not wholly hidden at the beginning, and then goes through them from the top: a sample

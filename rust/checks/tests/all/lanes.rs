@@ -20,7 +20,37 @@ fn count(code: &[u8], operation: u8) -> usize {
 
 /// Sums, differences and comparisons of four lanes, products and quotients of two.
 const OPERATIONS: [(&str, u8); 5] =
-    [("paddd", 0xFE), ("psubd", 0xFA), ("pcmpgtd", 0x66), ("pmuludq", 0xF4), ("divpd", 0x5E)];
+    [("paddd", 0xFE), ("psubd", 0xFA), ("pcmpgtd", COMPARED), ("pmuludq", 0xF4), ("divpd", 0x5E)];
+const COMPARED: u8 = 0x66;
+
+/// A little-endian number of so many bytes.
+fn number(bytes: &[u8], at: usize, length: usize) -> usize {
+    bytes[at..at + length].iter().rev().fold(0, |n, byte| n << 8 | usize::from(*byte))
+}
+
+/// The files of an archive: behind 8 bytes each has a head of 60 with its length in decimal, and begins at an even place.
+fn files(archive: &[u8]) -> Vec<&[u8]> {
+    let mut found = Vec::new();
+    let mut at = 8;
+    while at + 60 <= archive.len() {
+        let length =
+            std::str::from_utf8(&archive[at + 48..at + 58]).expect("a length").trim().parse().expect("a number");
+        let file: &[u8] = &archive[at + 60..][..length];
+        found.push(file);
+        at += 60 + length + length % 2;
+    }
+    found
+}
+
+/// The code of every function of a crate that stands in an object file by itself: its section is called by its name.
+fn code_of(object: &[u8], crate_name: &str) -> Vec<u8> {
+    let (headers, size, count) = (number(object, 0x28, 8), number(object, 0x3A, 2), number(object, 0x3C, 2));
+    let header = |i: usize| &object[headers + i * size..][..size];
+    let names = number(header(number(object, 0x3E, 2)), 0x18, 8);
+    let start = format!(".text.{crate_name}::");
+    let own = (0..count).map(header).filter(|h| object[names + number(h, 0, 4)..].starts_with(start.as_bytes()));
+    own.flat_map(|h| object[number(h, 0x18, 8)..][..number(h, 0x20, 8)].to_vec()).collect()
+}
 
 #[test]
 fn lanes_run_several_at_once() {
@@ -28,4 +58,14 @@ fn lanes_run_several_at_once() {
     for (name, operation) in OPERATIONS {
         assert!(count(&code, operation) > 0, "no {name} in the archive: its lanes run one by one");
     }
+}
+
+/// A run over eight boxes compares the ends of several at once, for each minimum and maximum and for their choices: one by
+/// one there would be none of these comparisons.
+#[test]
+fn ranges_run_several_at_once() {
+    let archive = archive();
+    let objects = files(&archive).into_iter().filter(|file| file.starts_with(b"\x7FELF"));
+    let found: usize = objects.map(|object| count(&code_of(object, "child_lanes"), COMPARED)).sum();
+    assert!(found >= 24, "{found} comparisons of four lanes in the run over eight boxes");
 }

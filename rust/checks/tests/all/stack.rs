@@ -26,8 +26,9 @@ pub fn mixed(slots: u32, count: i32) -> List {
     List { slots, clauses }
 }
 
-/// What a call of any kind takes at most, on any tape: the walk of a solid has four arrays of 6,144 words, 48 KiB each.
-const MOST: usize = 256 * 1024;
+/// What a call of any kind takes at most, on any tape: the walk of a solid has four arrays of 6,144 words and two of as many
+/// rows of choices, 48 KiB each, and 48 KiB of slots and ends.
+const MOST: usize = 384 * 1024;
 
 /// One array of 6,144 words, and what else a call needs that walks no regions.
 const ONE_ARRAY: usize = 64 * 1024;

@@ -1,163 +1,29 @@
--- The regions of side 8 of a tile.
-use mathlib.Core.Path.{_≡_, refl, _∙_}
-use mathlib.Core.Bool.{false}
-use Prim.Native.Nat.{_+_, _-_, _*_, _≤_, _<_}
-use native.Mathlib.Omega.{arith}
-use lib.ListN.{length, drop}
-use Rattle.sweep.specs.Chunks.{blockRows}
-use Rattle.picture.specs.Parts.{Apart}
-use Rattle.picture.proofs.PartLaws.{apart-none}
-use Rattle.walk.proofs.CellLaws.{ready-small}
-use Rattle.walk.proofs.LookLaws.{sound-length}
-use Rattle.walk.proofs.Places.{ready-again}
-use Rattle.walk.specs.Children.{Parent, childrenIn}
-use Rattle.walk.proofs.ChildLaws.{parent-of, children-few}
-use Rattle.walk.proofs.ChildLoop.{AtChild, child-begins, child-sum, child-again, child-done}
-use Rattle.walk.proofs.Clear.{Clear, clear-begins, child-blank, child-clear, child-apart}
-use Rattle.flat_eights.specs.Sides.{below8}
+-- The same, with ends of its own.
+use borrow.Author.Needs.{needs}
+use Rattle.child_lanes.proofs.RunLaws.{made-ends}
 use Rattle.flat_eights.proofs.eights.eights.Statement.{statement}
 use Rattle.flat_eights.proofs.eights.eights.Tie as tie
 
-abbrev Inv-loop : tie.InvT-loop
-Inv-loop whole code grid parent picture₀ work₀ second₀ slots₀ count₀ end m₀ picture work second slots count m =
-    AtChild false 8 65 code grid below8 parent picture₀ picture count m
-    × (length work ≡ length work₀)
-    × (length second ≡ length second₀)
-    × (length slots ≡ blockRows)
-    × Clear (grid .width) (drop m (childrenIn parent 8)) picture
-    × Apart (grid .width) (parent .x) (parent .x + 64) (parent .y) (parent .y + 64) picture₀ picture
+eights-by-requires : tie.Need-eights-by-requires
+eights-by-requires c κs =
+    (c .before .before .before .before .before .before .before .before .before .before .before .pre, made-ends)
 
-abbrev μ-loop : tie.MeasureT-loop
-μ-loop whole code grid parent picture₀ work₀ second₀ slots₀ count₀ end m₀ picture work second slots count m =
-    end - m
+same-length : tie.Need-same-length
+same-length c = search needs
 
--- The places: the start; in a turn before the child's call, after it, and past the loop.
-abbrev begun : tie.After-slice-known3 Inv-loop μ-loop → tie.Start Inv-loop μ-loop
-begun c = c .before .before .before .before .before
+same-length-2 : tie.Need-same-length-2
+same-length-2 c = search needs
 
-abbrev start : tie.At-loop Inv-loop μ-loop → tie.Start Inv-loop μ-loop
-start c = begun (c .before .before)
+same-length-3 : tie.Need-same-length-3
+same-length-3 c = search needs
 
-abbrev in-turn : tie.After-visit-eight-arg4 Inv-loop μ-loop → tie.After-child Inv-loop μ-loop
-in-turn c = c .before .before .before .before
+same-length-4 : tie.Need-same-length-4
+same-length-4 c = search needs
 
-abbrev called : tie.After-slice-known6 Inv-loop μ-loop → tie.After-visit-eight Inv-loop μ-loop
-called c = c .before .before .before .before .before .before
-
--- What is known at them.
-parent : (c : tie.Start Inv-loop μ-loop) → Parent (c .args .parent) 8
-parent c =
-    let p = c .pre in
-    parent-of 8 8 (ready-small (p .ready)) (p .cell) (omega arith) (omega arith) (p .side)
-
-few : (c : tie.Start Inv-loop μ-loop) → length (childrenIn (c .args .parent) 8) ≤ 64
-few c =
-    let p = c .pre in
-    children-few false _ _ 8 8 (omega arith) (omega arith) (p .side) (p .ready .fault) (p .cell)
-
-more : (c : tie.In-loop Inv-loop μ-loop)
-    → c .before .loop .m < length (childrenIn (start (c .before) .args .parent) 8)
-more c = omega (arith, c .loop-test .taken, c .before .before .child-count .ensures)
-
-child-count-requires : tie.Need-child-count-requires Inv-loop μ-loop
-child-count-requires c κs = parent (begun c)
-
-loop-holds : tie.Need-loop-holds Inv-loop μ-loop
-loop-holds c =
-    let p = begun (c .before) .pre in (
-      child-begins _,
-      refl,
-      refl,
-      p .slots,
-      clear-begins _ _ 8 8 (omega arith) (omega arith) (p .side) (p .ready .fault) (p .cell) (p .blank),
-      apart-none _ _ _ _ _ _,
-    )
-
-child-requires : tie.Need-child-requires Inv-loop μ-loop
-child-requires c κs = record { parent = parent (start (c .before)); more = more c }
-
-visit-eight-requires : tie.Need-visit-eight-requires Inv-loop μ-loop
-visit-eight-requires c κs =
-    let t = in-turn c in
-    let k = t .child .ensures in
-    let i = t .before .before .loop .inv in
-    let p = start (t .before .before) .pre in
-    record {
-      level = p .level;
-      ready = ready-again (p .ready) (i .0 .size);
-      cell = k .ok _ _ (p .cell);
-      side = k .side;
-      even = omega (arith, k .at-x, p .even);
-      room = omega (arith, p .room, i .1);
-      second = omega (arith, p .second, i .2);
-      slots = i .3;
-      blank = child-blank k (i .4);
-    }
-
-add-count : tie.Need-add-count Inv-loop μ-loop
-add-count c =
-    let u = called c in
-    let t = in-turn (u .before) in
-    let l = t .before .before in
-    let s = start l in
-    let sum = child-sum (l .loop .inv .0) 64 (more (t .before)) (few s) (u .visit-eight .ensures .0 .bound) in
-    omega (arith, sound-length (s .pre .level .sound), sum)
-
-add-m : tie.Need-add-m Inv-loop μ-loop
-add-m c =
-    let t = in-turn (called c .before) in
-    omega (arith, more (t .before), few (start (t .before .before)))
-
-loop-less : tie.Need-loop-less Inv-loop μ-loop
-loop-less c = omega (arith, in-turn (called c .before) .before .loop-test .taken)
-
-loop-again : tie.Need-loop-again Inv-loop μ-loop
-loop-again c =
-    let v = called c .visit-eight in
-    let t = in-turn (called c .before) in
-    let k = t .child .ensures in
-    let i = t .before .before .loop .inv in
-    let p = start (t .before .before) .pre in
-    let kept = v .kept .1 .1 .1 .1 in (
-      child-again (i .0) k (more (t .before)) (v .ensures .0) (kept .0),
-      kept .1 .0 ∙ i .1,
-      kept .1 .1 .0 ∙ i .2,
-      v .ensures .1 .0,
-      child-clear k (i .4) (v .ensures .1 .1),
-      child-apart k 64 (p .side) (i .5) (v .ensures .1 .1),
-    )
-
-same-length : tie.Need-same-length Inv-loop μ-loop
-same-length c = c .before .loop .inv .0 .size
-
-same-length-2 : tie.Need-same-length-2 Inv-loop μ-loop
-same-length-2 c = c .before .loop .inv .1
-
-same-length-3 : tie.Need-same-length-3 Inv-loop μ-loop
-same-length-3 c = c .before .loop .inv .2
-
-returns : tie.Need-returns Inv-loop μ-loop
-returns c =
-    let i = c .before .loop .inv in
-    let h = few (start (c .before)) in
-    let e = c .before .before .child-count .ensures in
-    (child-done (i .0) 64 (64 * 65) (omega (arith, c .loop-test .left)) h (omega arith), (i .3, i .5))
+returns : tie.Need-returns
+returns c = search needs
 
 pub eights-spec : {M : Type 1} → statement M
 eights-spec =
     tie.close
-    (tie.spec
-    Inv-loop
-    μ-loop
-    child-count-requires
-    loop-holds
-    child-requires
-    visit-eight-requires
-    add-count
-    add-m
-    loop-less
-    loop-again
-    same-length
-    same-length-2
-    same-length-3
-    returns)
+    (tie.spec eights-by-requires same-length same-length-2 same-length-3 same-length-4 returns)

@@ -19,13 +19,13 @@ use Rattle.flat_eights.proofs.eights.visit_eight.Tie as tie
 abbrev begun : tie.After-slice-known3 → tie.Start
 begun c = c .before .before .before .before .before
 
-abbrev start : tie.After-look → tie.Start
+abbrev start : tie.After-look-lane → tie.Start
 start c = begun (c .before .before .before .before .before)
 
-abbrev done : tie.After-known-told → tie.After-look
+abbrev done : tie.After-known-told → tie.After-look-lane
 done c = c .before .before .before .before .before .before .before .before .before
 
-abbrev looked : tie.After-known-told2 → tie.After-look
+abbrev looked : tie.After-known-told2 → tie.After-look-lane
 looked c = c .before .before .before .before .before .before .before .before .before
 
 abbrev in-cut : tie.After-sample-rows-arg2 → tie.After-known-told2
@@ -37,34 +37,37 @@ visited c = c .before .before
 opened : (c : tie.After-known-told2)
     → let j = looked c in
     let a = start j .args in
-    let now = j .look .last .1 .1 .1 .1 in
+    let now = j .look-lane .last .1 .1 .1 .1 .1 .1 in
     Opened false (a .whole .now) (a .code .now) (a .grid) (regionIn (a .cell)) (a .picture .now)
     (now .0) (length (a .whole .now) + j .before .before .before .before .mark-room .result) (now .1 .0)
     (now .1 .1 .1 .0) (c .before .seen2 .given .0 .0)
-opened c = open-of false _ _ _ _ _ _ _ _ _ (looked c .look .ensures .0) (c .before .seen2 .given .1)
+opened c = open-of false _ _ _ _ _ _ _ _ _ (looked c .look-lane .ensures .0) (c .before .seen2 .given .1)
 
 mark-room-requires : tie.Need-mark-room-requires
-mark-room-requires c κs = begun c .pre .level .kept .kept .within
+mark-room-requires c κs = begun c .pre .eight .level .kept .kept .within
 
 add-base : tie.Need-add-base
 add-base c =
-    let w = begun (c .before) .pre .level .kept .kept .within in
+    let w = begun (c .before) .pre .eight .level .kept .kept .within in
     omega (arith, c .mark-room .ensures)
 
-look-requires : tie.Need-look-requires
-look-requires c κs =
+look-lane-requires : tie.Need-look-lane-requires
+look-lane-requires c κs =
     let k = c .before .before .before in
-    let p = begun (k .before) .pre in
+    let p = begun (k .before) .pre .eight in
     let m = k .mark-room .ensures in
     record {
-      look = record {
-        level = p .level;
-        ready = p .ready;
-        cell = p .cell;
-        marks = record { behind = omega arith; within = omega (arith, m, p .room) };
-        words = p .second;
+      flat = record {
+        look = record {
+          level = p .level;
+          ready = p .ready;
+          cell = p .cell;
+          marks = record { behind = omega arith; within = omega (arith, m, p .room) };
+          words = p .second;
+        };
+        even = p .even;
       };
-      even = p .even;
+      run = begun (k .before) .pre .run;
     }
 
 enum-known-seen : tie.Need-enum-known-seen
@@ -78,7 +81,7 @@ mul-short c =
     let j = looked c in
     let o = opened c .cut .start in
     let g = start j .good in
-    omega (arith, j .look .kept .1 .1 .1 .1 .1 .1 .1 .0)
+    omega (arith, j .look-lane .kept .1 .1 .1 .1 .1 .1 .1 .1 .1 .0)
 
 sub-short : tie.Need-sub-short
 sub-short c = opened c .cut .start
@@ -94,11 +97,11 @@ sample-rows-requires : tie.Need-sample-rows-requires
 sample-rows-requires c κs =
     let t = in-cut c in
     let j = looked t in
-    let p = start j .pre in
+    let p = start j .pre .eight in
     let short = open-sound (p .level .sound) (opened t) in
     record {
       sound = search (short, p .level .sound);
-      ready = ready-again (p .ready) (j .look .kept .1 .1 .1 .1 .0);
+      ready = ready-again (p .ready) (j .look-lane .kept .1 .1 .1 .1 .1 .1 .0);
       ok = p .cell;
       side = p .side;
       start = p .even;
@@ -110,7 +113,7 @@ add-result : tie.Need-add-result
 add-result c =
     let u = visited c in
     let t = in-cut (u .before) in
-    let w = start (looked t) .pre .level .sound in
+    let w = start (looked t) .pre .eight .level .sound in
     omega (arith, sound-length w, open-fewer w (opened t), u .sample-rows .ensures .0 .bound)
 
 same-length : tie.Need-same-length
@@ -128,10 +131,10 @@ same-length-4 c = search needs
 returns : tie.Need-returns
 returns c =
     let j = done c in
-    let p = start j .pre in (
+    let p = start j .pre .eight in (
       done-visits 65 1 [] refl (omega arith)
-          (done-of false _ _ _ _ _ _ _ _ _ (j .look .ensures .0) (c .before .seen .given .1)),
-      (p .slots, looked-apart (p .side) (j .look .ensures .1)),
+          (done-of false _ _ _ _ _ _ _ _ _ (j .look-lane .ensures .0) (c .before .seen .given .1)),
+      (p .slots, looked-apart (p .side) (j .look-lane .ensures .1)),
     )
 
 same-length-5 : tie.Need-same-length-5
@@ -145,12 +148,12 @@ returns-2 c =
     let u = visited c in
     let t = in-cut (u .before) in
     let j = looked t in
-    let p = start j .pre in (
+    let p = start j .pre .eight in (
       open-rows 1 8 (p .level .sound) (omega arith) (omega arith) (p .side) (record { ok = p .cell; same = refl })
           (opened t) [] 64 (u .sample-rows .ensures .0),
       (
         u .sample-rows .ensures .1 .0,
-        apart-then (looked-apart (p .side) (j .look .ensures .1)) (u .sample-rows .ensures .1 .1),
+        apart-then (looked-apart (p .side) (j .look-lane .ensures .1)) (u .sample-rows .ensures .1 .1),
       ),
     )
 
@@ -160,7 +163,7 @@ visit-eight-spec =
     (tie.spec
     mark-room-requires
     add-base
-    look-requires
+    look-lane-requires
     enum-known-seen
     enum-known-seen-2
     mul-short

@@ -1,9 +1,10 @@
 -- All tiles in the order of the list, from heights of 0.
-use mathlib.Core.Path.{_≡_, refl, ap, _∙_}
+use mathlib.Core.Path.{_≡_, refl, sym, ap, _∙_}
 use mathlib.Core.Bool.{true}
 use Prim.Native.Nat.{_-_}
 use native.Mathlib.Omega.{arith}
 use lib.ListN.{length, replicate}
+use Rattle.rules.specs.Tapes.{clauseLimit}
 use Rattle.walk.proofs.CellLaws.{small, first-in}
 use Rattle.walk.proofs.LookLaws.{sound-length}
 use Rattle.walk.proofs.Places.{ready-again}
@@ -14,15 +15,17 @@ use Rattle.order_drawing.proofs.tiles.tile_in_order.Statement.{statemen
 use Rattle.order_drawing.proofs.tiles.tile_in_order.Tie as tie
 
 abbrev Inv-loop : tie.InvT-loop
-Inv-loop whole grid order picture₀ work₀ first₀ second₀ third₀ all count₀ i₀ picture work first second third count i =
+Inv-loop whole grid order picture₀ work₀ first₀ second₀ third₀ all choices₀ below₀ count₀ i₀ picture work first second third choices below count i =
     AtNumber order whole grid picture₀ picture count i
     × (length work ≡ length work₀)
     × (length first ≡ length first₀)
     × (length second ≡ length second₀)
     × (length third ≡ length third₀)
+    × (length choices ≡ clauseLimit)
+    × (length below ≡ clauseLimit)
 
 abbrev μ-loop : tie.MeasureT-loop
-μ-loop whole grid order picture₀ work₀ first₀ second₀ third₀ all count₀ i₀ picture work first second third count i =
+μ-loop whole grid order picture₀ work₀ first₀ second₀ third₀ all choices₀ below₀ count₀ i₀ picture work first second third choices below count i =
     length order - i
 
 -- The places: the start, once the picture is clear and the cell made; in a turn before the tile's call, and after it.
@@ -35,11 +38,11 @@ cleared c = c .before .before .before
 abbrev start : tie.After-cell-at Inv-loop μ-loop → tie.Start Inv-loop μ-loop
 start c = begun (cleared c .before .before)
 
-abbrev in-turn : tie.After-visit-tile-arg5 Inv-loop μ-loop → tie.After-child Inv-loop μ-loop
-in-turn c = c .before .before .before .before .before
+abbrev in-turn : tie.After-below Inv-loop μ-loop → tie.After-child Inv-loop μ-loop
+in-turn c = c .before .before .before .before .before .before .before
 
-abbrev called : tie.After-slice-known11 Inv-loop μ-loop → tie.After-visit-tile Inv-loop μ-loop
-called c = c .before .before .before .before .before .before .before .before .before .before
+abbrev called : tie.After-below2 Inv-loop μ-loop → tie.After-visit-tile Inv-loop μ-loop
+called c = c .before .before .before .before .before .before .before .before .before .before .before .before
 
 clear-requires : tie.Need-clear-requires Inv-loop μ-loop
 clear-requires c κs = search needs
@@ -53,6 +56,8 @@ loop-holds : tie.Need-loop-holds Inv-loop μ-loop
 loop-holds c =
     let r = start c .pre .solid .ready in (
       begins _ _ (cleared c .clear .ensures ∙ ap (λ n. replicate n 0) (r .size)) refl,
+      refl,
+      refl,
       refl,
       refl,
       refl,
@@ -77,6 +82,14 @@ child-requires c κs =
     let e = p .solid .ready .fault in
     record { parent = parent k e; more = numbered k e _ (p .list) (t .before .loop .i) (t .loop-test .taken) }
 
+slice-aggregate-visit-tile : tie.Need-slice-aggregate-visit-tile Inv-loop μ-loop
+slice-aggregate-visit-tile c =
+    let t = c .before .before .before .before .before .before in
+    sym (t .before .before .before .loop .inv .5)
+
+slice-aggregate-visit-tile-2 : tie.Need-slice-aggregate-visit-tile-2 Inv-loop μ-loop
+slice-aggregate-visit-tile-2 c = sym (in-turn c .before .before .before .loop .inv .6)
+
 visit-tile-requires : tie.Need-visit-tile-requires Inv-loop μ-loop
 visit-tile-requires c κs =
     let t = in-turn c in
@@ -96,6 +109,8 @@ visit-tile-requires c κs =
       };
       cell = k .ok _ _ (made .cell-at .ensures .ok);
       side = k .side;
+      rows = omega (arith, sound-length (a .level .sound), i .5);
+      rows-below = omega (arith, sound-length (a .level .sound), i .6);
     }
 
 add-count : tie.Need-add-count Inv-loop μ-loop
@@ -139,6 +154,8 @@ loop-again c =
       kept .1 .1 .0 ∙ i .2,
       kept .1 .1 .1 .0 ∙ i .3,
       kept .1 .1 .1 .1 .0 ∙ i .4,
+      kept .1 .1 .1 .1 .1 .0 ∙ i .5,
+      kept .1 .1 .1 .1 .1 .1 .0 ∙ i .6,
     )
 
 same-length : tie.Need-same-length Inv-loop μ-loop
@@ -172,6 +189,8 @@ tile-in-order-spec =
     shared-slice-read-child
     cast-child
     child-requires
+    slice-aggregate-visit-tile
+    slice-aggregate-visit-tile-2
     visit-tile-requires
     add-count
     add-i

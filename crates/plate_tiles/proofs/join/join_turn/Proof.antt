@@ -4,6 +4,7 @@ use mathlib.Core.Bool.{false}
 use lib.ListN.{length}
 use Rattle.picture.proofs.PartLaws.{all-blank}
 use Rattle.walk.specs.Cells.{sizeIn}
+use Rattle.walk.proofs.LookLaws.{sound-length}
 use Rattle.walk.proofs.Places.{ready-again}
 use Rattle.flat_tiles.proofs.WalkLaws.{lent-again}
 use Rattle.plate_tiles.proofs.TileNumbers.{tile-patch, tile-even, tile-side}
@@ -18,10 +19,10 @@ abbrev begun : tie.After-tile → tie.Start
 begun c = c .before .before .before .before .before .before .before .before
 
 abbrev tiled : tie.After-visit-tile → tie.After-tile
-tiled c = c .before .before .before .before .before .before
+tiled c = c .before .before .before .before .before .before .before
 
 abbrev visited : tie.After-join-cell-arg2 → tie.After-visit-tile
-visited c = c .before .before .before .before .before .before .before .before .before .before
+visited c = c .before .before .before .before .before .before .before .before .before .before .before
 
 abbrev joining : tie.After-clear-cell-arg → tie.After-join-cell-arg2
 joining c = c .before .before .before .before
@@ -39,9 +40,12 @@ returns c = search needs
 tile-requires : tie.Need-tile-requires
 tile-requires c κs = search needs
 
+slice-aggregate-visit-tile : tie.Need-slice-aggregate-visit-tile
+slice-aggregate-visit-tile c = refl
+
 visit-tile-requires : tie.Need-visit-tile-requires
 visit-tile-requires c κs =
-    let t = c .before .before .before .before .before in
+    let t = c .before .before .before .before .before .before in
     let p = begun t .pre .part in
     let k = t .tile .ensures in
     record {
@@ -50,6 +54,7 @@ visit-tile-requires c κs =
       side = tile-side k;
       start = tile-even k;
       size = refl;
+      rows = sound-length (p .lent .level .sound);
       blank = all-blank _ _ _ _ _ (sizeIn false (begun t .args .grid)) (p .clean);
     }
 
@@ -89,7 +94,7 @@ returns-2 c =
     let p = begun t .pre in
     let s = p .tile .sized in
     let k = t .tile .ensures in
-    let known = c .before .before .before .before .before .before .before .before .before .before .before .before .before
+    let known = c .before .before .before .before .before .before .before .before .before .before .before .before .before .before
     .before .before in (
       λ n a. joined-turn s k (p .part .clean) (v .visit-tile .ensures .0) (λ i. known .slice-known6 .given i .fits) n a _
           (t .before .if1 .left) _ (c .before .before .before .before .before .before .join-cell .ensures),
@@ -103,6 +108,7 @@ join-turn-spec =
     (tie.spec
     returns
     tile-requires
+    slice-aggregate-visit-tile
     visit-tile-requires
     join-cell-requires
     clear-cell-requires

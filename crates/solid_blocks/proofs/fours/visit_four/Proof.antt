@@ -17,10 +17,10 @@ use Rattle.solid_blocks.proofs.fours.visit_four.Tie as tie
 abbrev begun : tie.After-slice-known3 → tie.Start
 begun c = c .before .before .before .before .before
 
-abbrev start : tie.After-look → tie.Start
+abbrev start : tie.After-look-lane → tie.Start
 start c = begun (c .before .before .before .before .before)
 
-abbrev looked : tie.After-known-told2 → tie.After-look
+abbrev looked : tie.After-known-told2 → tie.After-look-lane
 looked c = c .before .before .before .before .before .before .before .before .before
 
 abbrev in-cut : tie.After-sample-layers-arg2 → tie.After-known-told2
@@ -29,44 +29,49 @@ in-cut c = c .before .before .before .before
 abbrev visited : tie.After-slice-known7 → tie.After-sample-layers
 visited c = c .before .before
 
-abbrev done : tie.After-known-told → tie.After-look
+abbrev done : tie.After-known-told → tie.After-look-lane
 done c = c .before .before .before .before .before .before .before .before .before
 
-abbrev made-room : tie.After-look-arg3 → tie.After-mark-room
+abbrev made-room : tie.After-look-lane-arg3 → tie.After-mark-room
 made-room c = c .before .before .before
 
 opened : (c : tie.After-known-told2)
     → let j = looked c in
     let a = start j .args in
-    let now = j .look .last .1 .1 .1 .1 in
+    let now = j .look-lane .last .1 .1 .1 .1 .1 .1 in
     Opened true (a .whole .now) (a .code .now) (a .grid) (regionIn (a .cell)) (a .picture .now)
     (now .0) (length (a .whole .now) + 2 * made-room (j .before) .mark-room .result) (now .1 .0)
     (now .1 .1 .1 .0) (c .before .seen2 .given .0 .0)
-opened c = open-of true _ _ _ _ _ _ _ _ _ (looked c .look .ensures) (c .before .seen2 .given .1)
+opened c = open-of true _ _ _ _ _ _ _ _ _ (looked c .look-lane .ensures) (c .before .seen2 .given .1)
 
 mark-room-requires : tie.Need-mark-room-requires
-mark-room-requires c κs = begun c .pre .0 .level .kept .kept .within
+mark-room-requires c κs = begun c .pre .0 .four .level .kept .kept .within
 
 mul-base : tie.Need-mul-base
 mul-base c =
-    let w = begun (c .before) .pre .0 .level .kept .kept .within in
+    let w = begun (c .before) .pre .0 .four .level .kept .kept .within in
     omega (arith, c .mark-room .ensures)
 
 add-base : tie.Need-add-base
 add-base c =
-    let w = begun (c .before) .pre .0 .level .kept .kept .within in
+    let w = begun (c .before) .pre .0 .four .level .kept .kept .within in
     omega (arith, c .mark-room .ensures)
 
-look-requires : tie.Need-look-requires
-look-requires c κs =
-    let p = begun (made-room c .before) .pre .0 in
+look-lane-requires : tie.Need-look-lane-requires
+look-lane-requires c κs =
+    let q = begun (made-room c .before) .pre .0 in
+    let p = q .four in
     let m = made-room c .mark-room .ensures in
     record {
-      level = p .level;
-      ready = p .ready;
-      cell = p .cell;
-      marks = record { behind = omega arith; within = omega (arith, m, p .room) };
-      words = p .third;
+      look = record {
+        level = p .level;
+        ready = p .ready;
+        cell = p .cell;
+        marks = record { behind = omega arith; within = omega (arith, m, p .room) };
+        words = p .third;
+      };
+      seen = q .seen;
+      run = q .run;
     }
 
 enum-known-seen : tie.Need-enum-known-seen
@@ -80,7 +85,7 @@ mul-short c =
     let o = opened c .cut .start in
     let j = looked c in
     let g = start j .good in
-    omega (arith, j .look .kept .1 .1 .1 .1 .1 .1 .1 .0)
+    omega (arith, j .look-lane .kept .1 .1 .1 .1 .1 .1 .1 .1 .1 .0)
 
 sub-short : tie.Need-sub-short
 sub-short c = opened c .cut .start
@@ -96,11 +101,11 @@ sample-layers-requires : tie.Need-sample-layers-requires
 sample-layers-requires c κs =
     let t = in-cut c in
     let j = looked t in
-    let p = start j .pre .0 in
+    let p = start j .pre .0 .four in
     let short = open-sound (p .level .sound) (opened t) in (
       record {
         sound = search (short, p .level .sound);
-        ready = ready-again (p .ready) (j .look .kept .1 .1 .1 .1 .0);
+        ready = ready-again (p .ready) (j .look-lane .kept .1 .1 .1 .1 .1 .1 .0);
         cell = p .cell;
         side = p .side;
       },
@@ -111,7 +116,7 @@ add-result : tie.Need-add-result
 add-result c =
     let u = visited c in
     let t = in-cut (u .before) in
-    let s = start (looked t) .pre .0 .level .sound in
+    let s = start (looked t) .pre .0 .four .level .sound in
     omega (arith, sound-length s, open-fewer s (opened t), u .sample-layers .ensures .0 .bound)
 
 same-length : tie.Need-same-length
@@ -127,7 +132,7 @@ returns : tie.Need-returns
 returns c =
     let j = done c in (
       done-visits 65 1 [] refl (omega arith)
-          (done-of true _ _ _ _ _ _ _ _ _ (j .look .ensures) (c .before .seen .given .1)),
+          (done-of true _ _ _ _ _ _ _ _ _ (j .look-lane .ensures) (c .before .seen .given .1)),
       start j .pre .1,
     )
 
@@ -145,7 +150,7 @@ returns-2 c =
     let u = visited c in
     let t = in-cut (u .before) in
     let j = looked t in
-    let p = start j .pre .0 in
+    let p = start j .pre .0 .four in
     let inside = u .sample-layers .ensures in (
       open-layers 1 4 (p .level .sound) (omega arith) (omega arith) (p .side) (record { ok = p .cell; same = refl })
           (p .ready .fault) (opened t) [] 64 (inside .0),
@@ -159,7 +164,7 @@ visit-four-spec =
     mark-room-requires
     mul-base
     add-base
-    look-requires
+    look-lane-requires
     enum-known-seen
     enum-known-seen-2
     mul-short

@@ -1,22 +1,23 @@
--- Hidden, full, empty and cut.
+-- Hidden; or judged over its box, and settled.
+use mathlib.Core.Path.{refl}
 use mathlib.Core.Bool.{true, false}
 use Rattle.picture.specs.Shapes.{gridIn}
 use Rattle.walk.specs.Cells.{regionIn}
 use Rattle.walk.specs.Draws.{Hidden, Same}
-use Rattle.walk.proofs.LookLaws.{look-cell, look-judge, done-hidden, done-full, done-empty, opened}
+use Rattle.walk.proofs.LookLaws.{look-cell, look-judge, done-hidden}
 use borrow.Author.Needs.{needs}
 use Rattle.solid_blocks.proofs.look.look.Statement.{statement}
 use Rattle.solid_blocks.proofs.look.look.Tie as tie
 
--- The places: the start, once the region is known to be seen; the box; and the judge, from the arms.
+-- The places: the start, once the region is known to be seen; its box; and the judge, before the outcome is settled.
 abbrev start : tie.Else1 → tie.Start
 start c = c .before .before .before .before .before .before .before .before
 
 abbrev with-box : tie.After-judge → tie.After-solid-bounds
 with-box c = c .before .before .before
 
-abbrev judged : tie.After-slice-known5 → tie.After-judge
-judged c = c .before .before .before .before
+abbrev judged : tie.After-settle-arg → tie.After-judge
+judged c = c .before .before .before .before .before
 
 seen : (c : tie.Else1)
     → Hidden Same (gridIn (start c .args .grid) true) (regionIn (start c .args .c)) (start c .args .picture .now) false
@@ -41,19 +42,10 @@ judge-requires c κs =
     let b = c .before .before in
     look-judge (start (b .before) .pre) (b .solid-bounds .ensures .ok)
 
-enum-told : tie.Need-enum-told
-enum-told c = search needs
-
-fill-requires : tie.Need-fill-requires
-fill-requires c κs =
-    let p = start (with-box (judged (c .before .before .before)) .before) .pre in
+settle-requires : tie.Need-settle-requires
+settle-requires c κs =
+    let p = start (with-box (judged c) .before) .pre in
     record { ready = p .ready; cell = p .cell }
-
-enum-told-2 : tie.Need-enum-told-2
-enum-told-2 c = search needs
-
-enum-known-outcome : tie.Need-enum-known-outcome
-enum-known-outcome c = search needs
 
 same-length-2 : tie.Need-same-length-2
 same-length-2 c = search needs
@@ -66,43 +58,10 @@ same-length-4 c = search needs
 
 returns-2 : tie.Need-returns-2
 returns-2 c =
-    let filled = c .before .before in
-    let told = filled .before .before in
-    let j = judged (told .before .before) in
+    let s = c .before .before in
+    let j = judged (s .before) in
     let b = with-box j in
-    done-full true (b .solid-bounds .ensures) (seen (b .before)) (j .judge .ensures) (told .enum-told .given .1)
-    (filled .fill .ensures)
-
-same-length-5 : tie.Need-same-length-5
-same-length-5 c = search needs
-
-same-length-6 : tie.Need-same-length-6
-same-length-6 c = search needs
-
-same-length-7 : tie.Need-same-length-7
-same-length-7 c = search needs
-
-returns-3 : tie.Need-returns-3
-returns-3 c =
-    let j = judged (c .before .before) in
-    let b = with-box j in
-    done-empty true (b .solid-bounds .ensures) (seen (b .before)) (j .judge .ensures) (c .enum-told2 .given .1)
-
-same-length-8 : tie.Need-same-length-8
-same-length-8 c = search needs
-
-same-length-9 : tie.Need-same-length-9
-same-length-9 c = search needs
-
-same-length-10 : tie.Need-same-length-10
-same-length-10 c = search needs
-
-returns-4 : tie.Need-returns-4
-returns-4 c =
-    let told = c .before in
-    let j = judged (told .before .before) in
-    let b = with-box j in
-    opened true (b .solid-bounds .ensures) (seen (b .before)) (j .judge .ensures) (told .outcome .given .1)
+    s .settle .ensures .over _ _ _ _ _ _ (b .solid-bounds .ensures) (seen (b .before)) (j .judge .ensures) refl
 
 pub look-spec : {M : Type 1} → statement M
 look-spec =
@@ -113,19 +72,8 @@ look-spec =
     returns
     solid-bounds-requires
     judge-requires
-    enum-told
-    fill-requires
-    enum-told-2
-    enum-known-outcome
+    settle-requires
     same-length-2
     same-length-3
     same-length-4
-    returns-2
-    same-length-5
-    same-length-6
-    same-length-7
-    returns-3
-    same-length-8
-    same-length-9
-    same-length-10
-    returns-4)
+    returns-2)

@@ -1,10 +1,11 @@
 -- All tiles, from heights of 0.
-use mathlib.Core.Path.{ap, _∙_}
+use mathlib.Core.Path.{refl, ap, _∙_}
 use mathlib.Core.Bool.{true}
 use native.Mathlib.Omega.{arith}
 use lib.ListN.{replicate}
 use Rattle.rules.specs.Drawings.{Region}
 use Rattle.walk.proofs.CellLaws.{small, first-in}
+use Rattle.walk.proofs.LookLaws.{sound-length}
 use Rattle.walk.proofs.Places.{ready-again}
 use Rattle.solid_tiles.proofs.WalkLaws.{folds-walked}
 use borrow.Author.Needs.{needs}
@@ -18,11 +19,11 @@ start c = c .before .before .before .before .before .before .before .before
 abbrev cleared : tie.After-cell-at → tie.After-clear
 cleared c = c .before .before .before
 
-abbrev lent : tie.After-tiles-arg5 → tie.After-cell-at
-lent c = c .before .before .before .before .before
+abbrev lent : tie.After-below → tie.After-cell-at
+lent c = c .before .before .before .before .before .before .before
 
-abbrev drawn : tie.After-slice-known11 → tie.After-tiles
-drawn c = c .before .before .before .before .before .before .before .before .before .before
+abbrev drawn : tie.After-below2 → tie.After-tiles
+drawn c = c .before .before .before .before .before .before .before .before .before .before .before .before
 
 clear-requires : tie.Need-clear-requires
 clear-requires c κs = search needs
@@ -31,6 +32,12 @@ cell-at-requires : tie.Need-cell-at-requires
 cell-at-requires c κs =
     let e = start (c .before .before) .pre .ready .fault in
     record { small = small true _ e; place = first-in true _ e; some = omega arith; few = omega arith }
+
+slice-aggregate-tiles : tie.Need-slice-aggregate-tiles
+slice-aggregate-tiles c = refl
+
+slice-aggregate-tiles-2 : tie.Need-slice-aggregate-tiles-2
+slice-aggregate-tiles-2 c = refl
 
 tiles-requires : tie.Need-tiles-requires
 tiles-requires c κs =
@@ -48,6 +55,8 @@ tiles-requires c κs =
       };
       cell = k .ok;
       side = ap (λ (q : Region). q .long) (k .same);
+      rows = sound-length (p .level .sound);
+      rows-below = sound-length (p .level .sound);
     }
 
 same-length : tie.Need-same-length
@@ -79,6 +88,8 @@ tile-solid-spec =
     (tie.spec
     clear-requires
     cell-at-requires
+    slice-aggregate-tiles
+    slice-aggregate-tiles-2
     tiles-requires
     same-length
     same-length-2

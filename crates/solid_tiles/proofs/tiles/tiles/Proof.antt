@@ -16,15 +16,17 @@ use Rattle.solid_tiles.proofs.tiles.tiles.Statement.{statement}
 use Rattle.solid_tiles.proofs.tiles.tiles.Tie as tie
 
 abbrev Inv-loop : tie.InvT-loop
-Inv-loop whole grid parent picture₀ work₀ first₀ second₀ third₀ count₀ end m₀ picture work first second third count m =
+Inv-loop whole grid parent picture₀ work₀ first₀ second₀ third₀ choices₀ below₀ count₀ end m₀ picture work first second third choices below count m =
     AtChild true 64 solidBound whole grid below64 parent picture₀ picture count m
     × (length work ≡ length work₀)
     × (length first ≡ length first₀)
     × (length second ≡ length second₀)
     × (length third ≡ length third₀)
+    × (length choices ≡ length choices₀)
+    × (length below ≡ length below₀)
 
 abbrev μ-loop : tie.MeasureT-loop
-μ-loop whole grid parent picture₀ work₀ first₀ second₀ third₀ count₀ end m₀ picture work first second third count m =
+μ-loop whole grid parent picture₀ work₀ first₀ second₀ third₀ choices₀ below₀ count₀ end m₀ picture work first second third choices below count m =
     end - m
 
 -- The places: the start; in a turn before the child's call, after it, and past the loop.
@@ -34,11 +36,11 @@ begun c = c .before .before .before .before .before .before
 abbrev start : tie.At-loop Inv-loop μ-loop → tie.Start Inv-loop μ-loop
 start c = begun (c .before .before)
 
-abbrev in-turn : tie.After-visit-tile-arg5 Inv-loop μ-loop → tie.After-child Inv-loop μ-loop
-in-turn c = c .before .before .before .before .before
+abbrev in-turn : tie.After-visit-tile-arg7 Inv-loop μ-loop → tie.After-child Inv-loop μ-loop
+in-turn c = c .before .before .before .before .before .before .before
 
-abbrev called : tie.After-slice-known10 Inv-loop μ-loop → tie.After-visit-tile Inv-loop μ-loop
-called c = c .before .before .before .before .before .before .before .before .before .before
+abbrev called : tie.After-below Inv-loop μ-loop → tie.After-visit-tile Inv-loop μ-loop
+called c = c .before .before .before .before .before .before .before .before .before .before .before .before
 
 -- What is known at them.
 parent : (c : tie.Start Inv-loop μ-loop) → Parent (c .args .parent) 64
@@ -61,6 +63,8 @@ child-count-requires c κs = parent (begun c)
 loop-holds : tie.Need-loop-holds Inv-loop μ-loop
 loop-holds c = (
   child-begins _,
+  refl,
+  refl,
   refl,
   refl,
   refl,
@@ -88,6 +92,8 @@ visit-tile-requires c κs =
       };
       cell = k .ok _ _ (p .cell);
       side = k .side;
+      rows = omega (arith, p .rows, i .5);
+      rows-below = omega (arith, p .rows-below, i .6);
     }
 
 add-count : tie.Need-add-count Inv-loop μ-loop
@@ -118,6 +124,8 @@ loop-again c =
       kept .1 .1 .0 ∙ i .2,
       kept .1 .1 .1 .0 ∙ i .3,
       kept .1 .1 .1 .1 .0 ∙ i .4,
+      kept .1 .1 .1 .1 .1 .0 ∙ i .5,
+      kept .1 .1 .1 .1 .1 .1 .0 ∙ i .6,
     )
 
 same-length : tie.Need-same-length Inv-loop μ-loop
@@ -134,6 +142,12 @@ same-length-4 c = c .before .loop .inv .3
 
 same-length-5 : tie.Need-same-length-5 Inv-loop μ-loop
 same-length-5 c = c .before .loop .inv .4
+
+same-length-6 : tie.Need-same-length-6 Inv-loop μ-loop
+same-length-6 c = c .before .loop .inv .5
+
+same-length-7 : tie.Need-same-length-7 Inv-loop μ-loop
+same-length-7 c = c .before .loop .inv .6
 
 returns : tie.Need-returns Inv-loop μ-loop
 returns c =
@@ -161,4 +175,6 @@ tiles-spec =
     same-length-3
     same-length-4
     same-length-5
+    same-length-6
+    same-length-7
     returns)

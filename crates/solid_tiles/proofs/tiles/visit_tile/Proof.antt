@@ -25,11 +25,11 @@ start c = begun (c .before .before .before .before)
 abbrev looked : tie.After-known-told2 → tie.After-look
 looked c = c .before .before .before .before .before .before .before .before .before
 
-abbrev in-cut : tie.After-sixteens-arg4 → tie.After-known-told2
-in-cut c = c .before .before .before .before .before .before
+abbrev in-cut : tie.After-sixteens-arg6 → tie.After-known-told2
+in-cut c = c .before .before .before .before .before .before .before .before
 
-abbrev visited : tie.After-slice-known12 → tie.After-sixteens
-visited c = c .before .before .before .before .before .before .before .before
+abbrev visited : tie.After-below → tie.After-sixteens
+visited c = c .before .before .before .before .before .before .before .before .before .before
 
 abbrev done : tie.After-known-told → tie.After-look
 done c = c .before .before .before .before .before .before .before .before .before
@@ -84,16 +84,18 @@ sixteens-requires c κs =
     let p = start j .pre in
     let whole = p .tile .level in
     let kept = j .look .kept .1 .1 .1 .1 in
-    let short = open-level whole (opened t) in
-    record {
-      level = search (short, whole);
-      ready = ready-again (p .tile .ready) (kept .0);
-      cell = p .cell;
-      side = p .side;
-      room = omega (arith, p .tile .room, kept .1 .0);
-      second = p .tile .second;
-      third = p .tile .third;
-    }
+    let short = open-level whole (opened t) in (
+      record {
+        level = search (short, whole);
+        ready = ready-again (p .tile .ready) (kept .0);
+        cell = p .cell;
+        side = p .side;
+        room = omega (arith, p .tile .room, kept .1 .0);
+        second = p .tile .second;
+        third = p .tile .third;
+      },
+      (p .rows, p .rows-below),
+    )
 
 add-result : tie.Need-add-result
 add-result c =
@@ -132,6 +134,12 @@ same-length-7 c = search needs
 same-length-8 : tie.Need-same-length-8
 same-length-8 c = search needs
 
+same-length-9 : tie.Need-same-length-9
+same-length-9 c = search needs
+
+same-length-10 : tie.Need-same-length-10
+same-length-10 c = search needs
+
 returns-2 : tie.Need-returns-2
 returns-2 c =
     let u = visited c in
@@ -163,4 +171,6 @@ visit-tile-spec =
     same-length-6
     same-length-7
     same-length-8
+    same-length-9
+    same-length-10
     returns-2)

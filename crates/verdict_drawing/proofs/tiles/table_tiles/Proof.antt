@@ -20,25 +20,26 @@ use Rattle.verdict_drawing.proofs.tiles.table_tiles.Statement.{statemen
 use Rattle.verdict_drawing.proofs.tiles.table_tiles.Tie as tie
 
 abbrev Inv-loop : tie.InvT-loop
-Inv-loop whole grid rectangle table₀ picture₀ work₀ first₀ second₀ slots₀ count₀ end k₀ table picture work first second slots count k =
+Inv-loop whole grid rectangle table₀ picture₀ work₀ first₀ second₀ slots₀ choices₀ count₀ end k₀ table picture work first second slots choices count k =
     AtTile whole grid (tilesIn (gridIn grid false) (rectangleIn rectangle)) table₀ picture₀ table picture count k
     × (length work ≡ length work₀)
     × (length first ≡ length first₀)
     × (length second ≡ length second₀)
     × (length slots ≡ blockRows)
+    × (length choices ≡ length choices₀)
 
 abbrev μ-loop : tie.MeasureT-loop
-μ-loop whole grid rectangle table₀ picture₀ work₀ first₀ second₀ slots₀ count₀ end k₀ table picture work first second slots count k = end - k
+μ-loop whole grid rectangle table₀ picture₀ work₀ first₀ second₀ slots₀ choices₀ count₀ end k₀ table picture work first second slots choices count k = end - k
 
 -- The places: the start, from the loop; in a turn the number and the loop, before the tile's call and behind it.
 abbrev start : tie.At-loop Inv-loop μ-loop → tie.Start Inv-loop μ-loop
 start c = c .before .before .before .before .before .before .before .before
 
-abbrev numbered : tie.After-table-tile-arg6 Inv-loop μ-loop → tie.After-number-in Inv-loop μ-loop
-numbered c = c .before .before .before .before .before .before
+abbrev numbered : tie.After-table-tile-arg7 Inv-loop μ-loop → tie.After-number-in Inv-loop μ-loop
+numbered c = c .before .before .before .before .before .before .before
 
-abbrev called : tie.After-slice-known10 Inv-loop μ-loop → tie.After-table-tile Inv-loop μ-loop
-called c = c .before .before .before .before .before .before .before .before .before .before
+abbrev called : tie.After-choices Inv-loop μ-loop → tie.After-table-tile Inv-loop μ-loop
+called c = c .before .before .before .before .before .before .before .before .before .before .before
 
 -- What is known at them.
 in-grid : (c : tie.Start Inv-loop μ-loop) → InGrid (c .args .grid) (c .args .rectangle)
@@ -65,6 +66,7 @@ loop-holds c =
       refl,
       refl,
       p .size,
+      refl,
     )
 
 number-in-requires : tie.Need-number-in-requires Inv-loop μ-loop
@@ -75,7 +77,8 @@ table-tile-requires c κs =
     let n = numbered c in
     let l = n .before .before in
     let i = l .loop .inv in
-    let p = start l .pre .rect in
+    let o = start l .pre in
+    let p = o .rect in
     let m = more (n .before) in
     let e = n .number-in .ensures in
     let a = start l .args in
@@ -90,6 +93,7 @@ table-tile-requires c κs =
       passes = record { slots = p .passes .slots; passed = i .0 .passed (p .passes .slots) (p .passes .passed) };
       blank = rw e (clean-tile (i .0 .clean) (number-from (i .0) m) (i .0 .size ∙ p .lent .ready .size));
       size = i .4;
+      rows = omega (arith, o .rows, i .5);
     }
 
 add-count : tie.Need-add-count Inv-loop μ-loop
@@ -133,6 +137,7 @@ loop-again c =
       kept .1 .1 .0 ∙ i .2,
       kept .1 .1 .1 .0 ∙ i .3,
       v .ensures .1 .0,
+      kept .1 .1 .1 .1 .1 .0 ∙ i .5,
     )
 
 same-length : tie.Need-same-length Inv-loop μ-loop
@@ -151,6 +156,9 @@ same-length-4 c = c .before .loop .inv .2
 
 same-length-5 : tie.Need-same-length-5 Inv-loop μ-loop
 same-length-5 c = c .before .loop .inv .3
+
+same-length-6 : tie.Need-same-length-6 Inv-loop μ-loop
+same-length-6 c = c .before .loop .inv .5
 
 returns : tie.Need-returns Inv-loop μ-loop
 returns c =
@@ -178,4 +186,5 @@ table-tiles-spec =
     same-length-3
     same-length-4
     same-length-5
+    same-length-6
     returns)

@@ -20,8 +20,8 @@ start c = c .before .before .before .before .before .before .before .before
 abbrev fresh : tie.After-kept-words → tie.After-entry-at
 fresh c = c .before .before .before .before .before .before
 
-abbrev words : tie.After-eights-arg4 → tie.After-kept-words
-words c = c .before .before .before .before .before .before .before .before .before .before
+abbrev words : tie.After-eights-arg5 → tie.After-kept-words
+words c = c .before .before .before .before .before .before .before .before .before .before .before
 
 -- What is known there.
 few : (c : tie.After-entry-at) → start c .args .number < tileLimit
@@ -130,6 +130,7 @@ eights-requires c κs =
       room = omega (arith, l .marks, w .kept-words .kept .1 .1 .1 .0);
       second = l .words-second;
       slots = p .size;
+      rows = p .rows;
       blank = tile-blank k (p .blank);
     }
 
@@ -145,9 +146,12 @@ same-length-4 c = search needs
 same-length-5 : tie.Need-same-length-5
 same-length-5 c = search needs
 
+same-length-6 : tie.Need-same-length-6
+same-length-6 c = search needs
+
 returns-3 : tie.Need-returns-3
 returns-3 c =
-    let v = c .before .before .before .before .before .before in
+    let v = c .before .before .before .before .before .before .before in
     let w = words (v .before) in
     let e = fresh w in
     let p = start e .pre in
@@ -178,4 +182,5 @@ known-tile-spec =
     same-length-3
     same-length-4
     same-length-5
+    same-length-6
     returns-3)

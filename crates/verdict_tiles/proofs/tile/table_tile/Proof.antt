@@ -14,11 +14,11 @@ use Rattle.verdict_tiles.proofs.tile.table_tile.Tie as tie
 abbrev start : tie.After-meet → tie.Start
 start c = c .before .before .before .before .before .before .before .before .before .before
 
-abbrev met : tie.After-known-tile-arg6 → tie.After-meet
-met c = c .before .before .before .before .before .before .before .before .before .before .before .before
+abbrev met : tie.After-known-tile-arg7 → tie.After-meet
+met c = c .before .before .before .before .before .before .before .before .before .before .before .before .before
 
-abbrev drawn : tie.After-slice-known12 → tie.After-known-tile
-drawn c = c .before .before .before .before .before .before .before .before
+abbrev drawn : tie.After-choices → tie.After-known-tile
+drawn c = c .before .before .before .before .before .before .before .before .before
 
 few : (c : tie.After-meet) → start c .args .number < tileLimit
 few c = let t = start c .pre .tile in omega (arith, t .more, few-tiles (t .sized))
@@ -38,6 +38,7 @@ known-tile-requires c κs =
         passes = met-passes (few m) (m .meet .ensures) (p .passes);
         blank = p .blank;
         size = p .size;
+        rows = p .rows;
       };
       known = met-verdict (few m) (m .meet .ensures) (p .passes);
     }
@@ -68,6 +69,9 @@ same-length-4 c = search needs
 same-length-5 : tie.Need-same-length-5
 same-length-5 c = search needs
 
+same-length-6 : tie.Need-same-length-6
+same-length-6 c = search needs
+
 returns : tie.Need-returns
 returns c =
     let d = drawn c in
@@ -86,4 +90,5 @@ table-tile-spec =
     same-length-3
     same-length-4
     same-length-5
+    same-length-6
     returns)
