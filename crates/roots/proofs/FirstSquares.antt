@@ -1,8 +1,8 @@
 -- The square of the first estimate against the number, in natural numbers alone.
 -- g stands for 2^42, h for half of the number's digits, from 2^51 up to 2^52, and n for all of them, 2·h or 2·h + 1.
 use mathlib.Core.Path.{_≡_, refl, subst}
-use Prim.Native.Nat.{ℕ, _+_, _-_, _*_, _≤_, _<_}
-use native.Mathlib.Nat.{add-sub-of-le, mul-le-mul-left, mul-le-mul-right, mul-le-mul}
+use Prim.Native.Nat.{ℕ, _+_, _-_, _*_, _≤_}
+use native.Mathlib.Nat.{add-sub-of-le, mul-le-mul-left}
 use native.Mathlib.Omega.{arith}
 use mathlib.Core.Bool.{Bool, true, false}
 use lib.Dec.{ltb}

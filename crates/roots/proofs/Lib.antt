@@ -3,3 +3,4 @@ pub mod LaneLoops
 mod RootSteps
 mod NoNan
 mod FirstSquares
+mod FirstEstimate
