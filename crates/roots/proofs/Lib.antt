@@ -3,3 +3,5 @@ pub mod LaneLoops
 mod RootSteps
 mod NoNan
 mod Rounding
+mod FirstSquares
+mod FirstEstimate
