@@ -2,3 +2,4 @@
 pub mod LaneLoops
 mod RootSteps
 mod NoNan
+mod Near
