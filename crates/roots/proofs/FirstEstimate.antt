@@ -2,25 +2,23 @@
 -- A finite float's size is a whole number of units of 2^-1074. A number of units with 53 digits n and the exponent k, that is n·2^k units, has the pattern k·2^52 + n.
 use mathlib.Core.Path.{_≡_, refl, sym, ap, _∙_, subst}
 use Prim.Native.Nat.{ℕ, zero, suc, _+_, _-_, _*_, _/_, _%_, _^_, _≤_, _<_}
-use native.Mathlib.Nat.{le-trans, le-of-eq, lt-of-lt-of-le, lt-of-not-le, not-le-of-lt, zero-add, one-mul, mul-assoc, mul-right-comm, mul-pos, mul-le-mul-right, mul-div-cancel, eq-of-mul-eq-mul-right, le-div-iff-mul-le}
+use native.Mathlib.Nat.{le-trans, le-of-eq, lt-of-lt-of-le, one-mul, mul-assoc, mul-le-mul-right, mul-div-cancel, le-div-iff-mul-le}
 use native.Mathlib.Omega.{arith}
-use mathlib.Core.Bool.{Bool, true, false, cond, true≢false}
+use mathlib.Core.Bool.{Bool, true, false, cond}
 use lib.IntN.{pos, negsuc}
 use lib.Dec.{T, leb, ltb, eqb, leb→le, eqb→eq, not-T, lit≤, lit<}
-use lib.Pow.{pow-add, pow-pos, pow-mono, shl-lt}
-use lib.Ieee.{Float, nan, inf, fin, binary64, up, down, size, odd, round, sum, add, ofInt, ofFields, ofBits, toBits}
-use lib.Ieee.Digits.{back, size-lt, size-le, size-reaches}
-use lib.Ieee.Fits.{down-pos, kept-lt}
+use lib.Pow.{pow-add, pow-pos, shl-lt}
+use lib.Ieee.{Float, nan, inf, fin, binary64, size, odd, round, ofInt, ofFields, ofBits, toBits}
+use lib.Ieee.Digits.{back, size-le, size-reaches}
+use lib.Ieee.Fits.{kept-lt}
 use lib.Ieee.Bits.{is-false, cond-no}
 use lib.Ieee.Exact.{HasValue, odd-sign, round-exact}
 use lib.Ieee.Back.{round-whole}
-use lib.Ieee.Scale.{round-same}
 use borrow.Author.Tests.{ltb-true, ltb-false}
+use Rattle.roots.specs.Estimates.{numberOf}
+use Rattle.roots.proofs.Rounding.{add-is}
+use Rattle.roots.proofs.Floats.{rescale, size-gt, bits-of}
 use Rattle.roots.proofs.FirstSquares.{Near, near-even, near-carry, near-odd}
-
--- the float of m + 2^-17
-abbrev pub numberOf : ℕ → Float
-numberOf m = add binary64 (ofInt binary64 (pos m)) (fin false 1 (negsuc 16))
 
 -- the pattern of the first estimate of its root
 abbrev pub firstPattern : ℕ → ℕ
@@ -31,35 +29,18 @@ abbrev pub numberSize : ℕ → ℕ
 numberSize m = (131072 * m + 1) * 2 ^ 1057
 
 -- ---- the float is exact
--- from one fraction to another of the same size
-rescale : (x : Float) (s : Bool) (w l n d : ℕ) → 0 < l → n * l ≡ w * d → HasValue x s w l → HasValue x s n d
-rescale nan s w l n d p h v = v
-rescale (inf t) s w l n d p h v = v
-rescale (fin t m e) s w l n d p h v = (
-  v .0,
-  eq-of-mul-eq-mul-right l p (m * up e * d) (n * down e)
-      (mul-right-comm (m * up e) d l
-      ∙ ap (λ (x : ℕ). x * d) (v .1)
-      ∙ mul-right-comm w (down e) d
-      ∙ ap (λ (x : ℕ). x * down e) (sym h)
-      ∙ mul-right-comm n l (down e)),
-)
-
 int-value : (m : ℕ) → m < 2147483648 → HasValue (ofInt binary64 (pos m)) false m 1
 unfolding ofInt
 int-value m h = round-whole binary64 false m (omega arith)
 
-sum-cross : (a d m : ℕ) → a * 1 ≡ m * d → (a * 131072 + 1 * 1 * d) * 131072 ≡ (131072 * m + 1) * (d * 131072)
-sum-cross a d m h = omega arith
+-- m in 131072ths
+in-parts : (m : ℕ) → 131072 * m * 1 ≡ m * 131072
+in-parts m = omega arith
 
-sum-is : (x : Float) (m : ℕ) → HasValue x false m 1 → add binary64 x (fin false 1 (negsuc 16)) ≡ round binary64 false (131072 * m + 1) 131072
-unfolding add sum
-sum-is nan m v = absurd v
-sum-is (inf t) m v = absurd v
-sum-is (fin true a e) m v = absurd (true≢false (v .0))
-sum-is (fin false a e) m v =
-    round-same binary64 false (a * up e * 131072 + 1 * 1 * down e) (down e * 131072) (131072 * m + 1) 131072 (mul-pos (down-pos e) (lit< tt)) (lit< tt)
-    (sum-cross (a * up e) (down e) m (v .1))
+sum-is : (m : ℕ) → m < 2147483648 → numberOf m ≡ round binary64 false (131072 * m + 1) 131072
+sum-is m h =
+    add-is (ofInt binary64 (pos m)) (fin false 1 (negsuc 16)) (131072 * m) 1 131072 (lit< tt)
+    (rescale (ofInt binary64 (pos m)) m 1 (131072 * m) 131072 (lit< tt) (in-parts m) (int-value m h)) (refl, refl)
 
 few-digits : (m : ℕ) → m < 2147483648 → 131072 * m + 1 < 2 ^ 53
 few-digits m h = omega arith
@@ -70,20 +51,10 @@ number-value m h =
     let r = round binary64 false q 131072 in
     let v : HasValue r false q 131072 =
     round-exact binary64 false q 131072 q 1057 (lit< tt) (few-digits m h) (lt-of-lt-of-le (shl-lt 53 1057 (few-digits m h)) (lit≤ tt)) (sym (mul-assoc q (2 ^ 1057) 131072)) in
-    subst (λ (x : Float). HasValue x false (numberSize m) (2 ^ 1074)) (sym (sum-is (ofInt binary64 (pos m)) m (int-value m h)))
-    (rescale r false q 131072 (numberSize m) (2 ^ 1074) (lit< tt) (mul-assoc q (2 ^ 1057) 131072) v)
+    subst (λ (x : Float). HasValue x false (numberSize m) (2 ^ 1074)) (sym (sum-is m h))
+    (rescale r q 131072 (numberSize m) (2 ^ 1074) (lit< tt) (mul-assoc q (2 ^ 1057) 131072) v)
 
 -- ---- its pattern
-pattern-is : (x : Float) (n : ℕ) → HasValue x false n (2 ^ 1074) → toBits binary64 x ≡ (size n - 53) * 2 ^ 52 + n / 2 ^ (size n - 53)
-unfolding toBits
-pattern-is nan n v = absurd v
-pattern-is (inf t) n v = absurd v
-pattern-is (fin true a e) n v = absurd (true≢false (v .0))
-pattern-is (fin false a e) n v =
-    let k = size n - 53 in
-    ap (λ (y : ℕ). 0 + (size y - 53) * 2 ^ 52 + y / 2 ^ (size y - 53)) (ap (λ (y : ℕ). y / down e) (v .1) ∙ mul-div-cancel n (down-pos e))
-    ∙ ap (λ (y : ℕ). y + n / 2 ^ k) (zero-add (k * 2 ^ 52))
-
 -- 53 digits and an exponent
 record Split (n : ℕ) : Type 0 where
   exponent : ℕ
@@ -94,9 +65,6 @@ record Split (n : ℕ) : Type 0 where
   large : exponent ≤ 1060
   least : 2 ^ 52 ≤ digits
   most : digits < 2 ^ 53
-
-size-gt : (n j : ℕ) → 2 ^ j ≤ n → j < size n
-size-gt n j h = lt-of-not-le (λ (g : size n ≤ j). not-le-of-lt (lt-of-lt-of-le (size-lt n) (pow-mono g)) h)
 
 split : (q : ℕ) → 1 ≤ q → q < 2 ^ 48 → Split (q * 2 ^ 1057)
 split q h l =
@@ -142,7 +110,7 @@ half-bound k d b e h l = omega arith
 pub pattern-bound : (m : ℕ) → m < 2147483648 → firstPattern m ≤ 0x7ff0000000000000
 pattern-bound m h =
     let s = number-split m h in
-    half-bound (s .exponent) (s .digits) (toBits binary64 (numberOf m)) (pattern-is (numberOf m) (numberSize m) (number-value m h) ∙ s .pattern) (s .large) (s .most)
+    half-bound (s .exponent) (s .digits) (toBits binary64 (numberOf m)) (bits-of (numberOf m) (numberSize m) (number-value m h) ∙ s .pattern) (s .large) (s .most)
 
 -- ---- what a pattern stands for
 ofBits-is : (b : ℕ) → ofBits binary64 b ≡ ofFields binary64 (leb (2 ^ 63) b) (b % 2 ^ 63 / 2 ^ 52) (b % 2 ^ 52)
@@ -279,7 +247,7 @@ first-near m l =
     let s = number-split m l in
     let k = s .exponent in
     let d = s .digits in
-    halves k d (pattern-is (numberOf m) (numberSize m) (number-value m l) ∙ s .pattern) (s .whole) (s .large) (s .least) (s .most)
+    halves k d (bits-of (numberOf m) (numberSize m) (number-value m l) ∙ s .pattern) (s .whole) (s .large) (s .least) (s .most)
   where
     halves : (k d : ℕ) → toBits binary64 (numberOf m) ≡ k * 2 ^ 52 + d → numberSize m ≡ d * 2 ^ k → k ≤ 1060 → 2 ^ 52 ≤ d → d < 2 ^ 53 → First m
     halves k d pattern whole large least most =

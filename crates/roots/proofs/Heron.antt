@@ -7,6 +7,7 @@ use Prim.Native.Nat.{ℕ, zero, suc, _+_, _*_, _^_, _≤_, _<_}
 use native.Mathlib.Omega.{arith}
 use native.Mathlib.Nat.{mul-one, mul-comm, mul-pos, mul-le-mul, mul-le-mul-right, le-of-mul-le-mul-left, le-of-mul-le-mul-right}
 use borrow.Author.Tests.{ltb-true, ltb-false}
+use Rattle.roots.proofs.Rounding.{Within}
 use Rattle.roots.proofs.Near.{
   whole,
   Near,
@@ -21,11 +22,6 @@ use Rattle.roots.proofs.Near.{
   four-products,
   few-products,
 }
-
--- r is y / d to one part in 2 ^ 53
-pub record Within (r y d : ℕ) : Type 0 where
-  pub low : 9007199254740991 * y ≤ 2 ^ 53 * (r * d)
-  pub high : 2 ^ 53 * (r * d) ≤ 9007199254740993 * y
 
 -- From a first estimate a of the root of x to a better one, t; S stands for 1.
 pub record Steps (S x a q u v z w n d g t : ℕ) : Type 0 where

@@ -52,7 +52,7 @@ cmp a b = go (compare a b) (leb→le a b) (nleb→lt a b) (eqb→eq a b) (λ (e 
     go Ordering·gt h k e n = k tt
 
 -- q is a / b, off by at most a half
-abbrev Near : ℕ → ℕ → ℕ → Type 0
+abbrev pub Near : ℕ → ℕ → ℕ → Type 0
 Near q a b = (q * b * 2 ≤ a * 2 + b) × (a * 2 ≤ q * b * 2 + b)
 
 bit-le : (w : ℕ) → w % 2 ≤ 1
@@ -66,7 +66,7 @@ nearest-near w r b a Ordering·lt c l h = omega arith
 nearest-near w r b a Ordering·eq c l h = near-tie w (w % 2) r b a (mul-le-mul-right b (bit-le w)) c h
 nearest-near w r b a Ordering·gt c l h = omega arith
 
-closest-near : (a b : ℕ) → 0 < b → Near (closest a b) a b
+pub closest-near : (a b : ℕ) → 0 < b → Near (closest a b) a b
 closest-near a b B = nearest-near (a / b) (a % b) b a (compare (a % b * 2) b) (cmp (a % b * 2) b) (mod-lt a B) (div-add-mod' a b)
 
 -- ---- a number that keeps 53 digits
@@ -146,7 +146,7 @@ quotient a b d e m n u U p q =
     let y : b * u * (m * d) ≡ n * e * (m * d) = ap (λ (z : ℕ). z * (m * d)) q in
     eq-of-mul-eq-mul-right u U (a * e * n) (m * (b * d)) (omega arith)
 
-mul-is : (x y : Float) (m n u : ℕ) → 0 < u → HasValue x false m u → HasValue y false n u → mul binary64 x y ≡ round binary64 false (m * n) (u * u)
+pub mul-is : (x y : Float) (m n u : ℕ) → 0 < u → HasValue x false m u → HasValue y false n u → mul binary64 x y ≡ round binary64 false (m * n) (u * u)
 unfolding mul
 mul-is nan y m n u U p q = absurd p
 mul-is (inf s) y m n u U p q = absurd p
@@ -158,7 +158,7 @@ mul-is (fin false a d) (fin false b e) m n u U p q =
     round-same binary64 false (a * up d * (b * up e)) (down d * down e) (m * n) (u * u) (mul-pos (down-pos d) (down-pos e)) (mul-pos U U)
     (product (a * up d) (b * up e) (down d) (down e) m n u (p .1) (q .1))
 
-add-is : (x y : Float) (m n u : ℕ) → 0 < u → HasValue x false m u → HasValue y false n u → add binary64 x y ≡ round binary64 false (m + n) u
+pub add-is : (x y : Float) (m n u : ℕ) → 0 < u → HasValue x false m u → HasValue y false n u → add binary64 x y ≡ round binary64 false (m + n) u
 unfolding add
 add-is nan y m n u U p q = absurd p
 add-is (inf s) y m n u U p q = absurd p
