@@ -1,3 +1,3 @@
--- Lanes, and what the steps to eight roots come to.
+-- Lanes, and what an estimate of a root is.
 pub mod Eight
-pub mod Steps
+pub mod Estimates

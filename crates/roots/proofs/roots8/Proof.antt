@@ -1,57 +1,74 @@
--- `roots::roots8`: where all lanes are sure each step has come to the root.
-use borrow.Author.Needs.{needs}
-use mathlib.Core.Path.{sym, _∙_}
+-- `roots::roots8`: lane by lane.
+use mathlib.Core.Path.{_≡_, refl, ap, _∙_}
+use borrow.Author.Needs.{needs, sfits-of}
+use native.Mathlib.Omega.{arith}
+use Prim.Native.Nat.{_-_, _≤_}
+use lib.IntN.{pos}
+use mir.Syntax.{w32}
+use mir.Facts.{toZ-ofZ}
+use Rattle.rules.specs.Values.{rootOf}
+use Rattle.rules.proofs.Words.{back}
+use Rattle.roots.specs.Eight.{laneCount, lane}
+use Rattle.roots.proofs.LaneLoops.{Below, none-below, one-more, all-below}
 use Rattle.roots.proofs.roots8.Statement.{statement}
 use Rattle.roots.proofs.roots8.Tie as tie
 
-parts-requires : tie.Need-parts-requires
-parts-requires c κs = search needs
+abbrev Inv-loop : tie.InvT-loop
+Inv-loop a r₀ k₀ r k = (k ≤ laneCount) × Below (pos 0) (λ j v. v ≡ rootOf (lane a j)) r k
 
-guesses-requires : tie.Need-guesses-requires
-guesses-requires c κs = search needs
+abbrev μ-loop : tie.MeasureT-loop
+μ-loop a r₀ k₀ r k = laneCount - k
 
-steps-requires : tie.Need-steps-requires
-steps-requires c κs = (record { at = λ k h. c .before .parts .ensures .at k h .bound }, c .guesses .ensures)
+loop-holds : tie.Need-loop-holds Inv-loop μ-loop
+loop-holds c = (omega arith, none-below _ _ _ refl)
 
-sures-requires : tie.Need-sures-requires
-sures-requires c κs =
-    (record { at = λ k h. c .before .before .parts .ensures .at k h .bound }, c .before .guesses .ensures)
+mul-root : tie.Need-mul-root Inv-loop μ-loop
+mul-root c = search needs
 
-total-requires : tie.Need-total-requires
-total-requires c κs = record { at = λ k h. c .sures .ensures .at k h .bound }
+array-copy-out-root : tie.Need-array-copy-out-root Inv-loop μ-loop
+array-copy-out-root c = search needs
 
-one-by-one-requires : tie.Need-one-by-one-requires
-one-by-one-requires c κs = search needs
+root-requires : tie.Need-root-requires Inv-loop μ-loop
+root-requires c κs = search needs
 
-returns : tie.Need-returns
-returns c = search needs
+mul-r : tie.Need-mul-r Inv-loop μ-loop
+mul-r c = search needs
 
-values-requires : tie.Need-values-requires
-values-requires c κs = record { at = λ k h. c .before .before .before .steps .ensures .at k h .bound }
+array-set-from-r : tie.Need-array-set-from-r Inv-loop μ-loop
+array-set-from-r c = search needs
 
-returns-2 : tie.Need-returns-2
-returns-2 c =
-    let n = c .before .before in
-    let s = n .before in
-    let w = s .before in
-    let p = w .before .before in
-    let all = n .total .ensures (c .before .if1 .left) in
-    record {
-      at = λ k h.
-          c .values .ensures .at k h ∙ sym (s .sures .ensures .at k h .root _ (w .steps .ensures .at k h) (all .at k h))
-          ∙ p .parts .ensures .at k h .root;
-    }
+add-k : tie.Need-add-k Inv-loop μ-loop
+add-k c = search needs
+
+loop-less : tie.Need-loop-less Inv-loop μ-loop
+loop-less c = search needs
+
+loop-again : tie.Need-loop-again Inv-loop μ-loop
+loop-again c =
+    let x = c .before in
+    let l = x .before .before .loop in (
+      omega arith,
+      one-more _ _ (l .r) (l .k) _ (x .before .loop-test .taken) (l .inv .1)
+          (back w32 (c .root .result) (c .root .ok)
+          (c .root .ensures ∙ ap rootOf (toZ-ofZ (sfits-of (x .root-arg .given))))),
+    )
+
+returns : tie.Need-returns Inv-loop μ-loop
+returns c = record { at = all-below _ _ _ _ (c .loop-test .left) (c .before .loop .inv .1) }
 
 pub roots8-spec : {M : Type 1} → statement M
 roots8-spec =
     tie.close
     (tie.spec
-    parts-requires
-    guesses-requires
-    steps-requires
-    sures-requires
-    total-requires
-    one-by-one-requires
-    returns
-    values-requires
-    returns-2)
+    Inv-loop
+    μ-loop
+    loop-holds
+    mul-root
+    array-copy-out-root
+    root-requires
+    mul-r
+    array-set-from-r
+    add-k
+    loop-less
+    loop-again
+    returns)

@@ -1,0 +1,294 @@
+-- Two of Heron's steps with one division, each rounded: how far the estimate is off the root, and that it is at most
+-- one step above it.
+use mathlib.Core.Path.{_≡_, refl, ap}
+use mathlib.Core.Bool.{Bool, true, false}
+use lib.Dec.{ltb, lit≤, lit<}
+use Prim.Native.Nat.{ℕ, zero, suc, _+_, _*_, _^_, _≤_, _<_}
+use native.Mathlib.Omega.{arith}
+use native.Mathlib.Nat.{mul-one, mul-comm, mul-pos, mul-le-mul, mul-le-mul-right, le-of-mul-le-mul-left, le-of-mul-le-mul-right}
+use borrow.Author.Tests.{ltb-true, ltb-false}
+use Rattle.roots.proofs.Rounding.{Within}
+use Rattle.roots.proofs.Near.{
+  whole,
+  Near,
+  near-sym,
+  near-more,
+  near-trans,
+  near-mul,
+  near-times,
+  near-cancel,
+  near-add,
+  near-same,
+  four-products,
+  few-products,
+}
+
+-- From a first estimate a of the root of x to a better one, t; S stands for 1.
+pub record Steps (S x a q u v z w n d g t : ℕ) : Type 0 where
+  pub unit : 0 < S
+  pub some : 0 < x
+  pub low : 932 * (x * S) ≤ 1000 * (a * a)
+  pub high : 1000 * (a * a) ≤ 1072 * (x * S)
+  pub q-is : Within q (a * a) S
+  pub u-is : Within u (q + x) 1
+  pub v-is : Within v (u * u) S
+  pub z-is : Within z (v * 8187) 32768
+  pub w-is : Within w (q * x) S
+  pub n-is : Within n (z + w) 1
+  pub d-is : Within d (a * u) S
+  pub g-is : Within g (n * S) d
+  pub t-is : Within t (g * 8391169) 8388608
+
+near-of : {r y d : ℕ} → Within r y d → Near 1 (r * d) y
+near-of h = record { up = omega arith; down = omega arith }
+
+-- parts in a thousand, some of them given up for the rounding
+low-of : (x y z : ℕ) → Near 1 z y → 932 * x ≤ 1000 * y → 9318 * x ≤ 10000 * z
+low-of x y z h l = omega arith
+
+high-of : (x y z : ℕ) → Near 1 z y → 1000 * y ≤ 1072 * x → 9318 * z ≤ 10000 * x
+high-of x y z h l = omega arith
+
+-- From p = 4·o, nearly, to 8187·p = 32768·o to 2 parts in 3127.
+squares-low : (p r o : ℕ) → Near 3 p r → 4 * o ≤ r → 3125 * (32768 * o) ≤ 3127 * (8187 * p)
+squares-low p r o h l = omega arith
+
+squares-high : (p r o : ℕ) → Near 3 p r → 93180000 * r ≤ 373185124 * o → 3125 * (8187 * p) ≤ 3127 * (32768 * o)
+squares-high p r o h l = omega arith
+
+-- Products in another order.
+last-two : (a b c : ℕ) → a * b * c ≡ a * c * b
+last-two a b c = omega arith
+
+by-one : (a b c : ℕ) → a * 1 * (b * c) ≡ a * b * c
+by-one a b c = omega arith
+
+both-by : (a b c d : ℕ) → (a + b) * (c * d) ≡ a * c * d + b * c * d
+both-by a b c d = omega arith
+
+squares : (a b : ℕ) → a * a * (b * b) ≡ a * b * (a * b)
+squares a b = omega arith
+
+squares-by : (a b c : ℕ) → a * b * (a * b) * (c * c) ≡ a * c * b * (a * c * b)
+squares-by a b c = omega arith
+
+squared : (d S : ℕ) → d * S * (d * S) ≡ d * d * S * S
+squared d S = omega arith
+
+moved : (d S g c : ℕ) → d * d * S * (g * g * c) ≡ g * d * (g * d) * c * S
+moved d S g c = omega arith
+
+-- p and q are factors of both sides, and go.
+low-free : (S x q p g m : ℕ) → 0 < q * p → whole * (m * S) ≤ (whole + 21) * (g * 1073741824 * (q * p))
+    → 4 * (8187 * p * (32768 * (q * x))) ≤ m
+    → whole * (8187 * (x * S)) ≤ (whole + 21) * (8192 * g)
+low-free S x q p g m o h l =
+    let i : 4 * (8187 * p * (32768 * (q * x))) * S ≤ m * S = mul-le-mul-right S l in
+    let j : whole * (8187 * (x * S)) * (q * p) ≤ (whole + 21) * (8192 * g) * (q * p) = omega arith in
+    le-of-mul-le-mul-right j o
+
+high-free : (S x q p g m : ℕ) → 0 < q * p → whole * (g * 1073741824 * (q * p)) ≤ (whole + 21) * (m * S)
+    → 9771875 * m ≤ 39087504 * (8187 * p * (32768 * (q * x)))
+    → whole * (9771875 * (8192 * g)) ≤ (whole + 21) * (9771876 * (8187 * (x * S)))
+high-free S x q p g m o h l =
+    let i : 9771875 * m * S ≤ 39087504 * (8187 * p * (32768 * (q * x))) * S = mul-le-mul-right S l in
+    let j : whole * (9771875 * (8192 * g)) * (q * p) ≤ (whole + 21) * (9771876 * (8187 * (x * S))) * (q * p) = omega arith in
+    le-of-mul-le-mul-right j o
+
+-- the factor 8391169 / 8388608, and its square
+factor-low : (g t : ℕ) → Near 1 (t * 8388608) (g * 8391169) → 1000305294 * g ≤ 1000000000 * t
+factor-low g t h = omega arith
+
+factor-high : (g t : ℕ) → Near 1 (t * 8388608) (g * 8391169) → 1000000000 * t ≤ 1000305295 * g
+factor-high g t h = omega arith
+
+square-low : (g t : ℕ) → 1000305294 * g ≤ 1000000000 * t → 1000610681 * (g * g) ≤ 1000000000 * (t * t)
+square-low g t h = let i = mul-le-mul h h in omega arith
+
+square-high : (g t : ℕ) → 1000000000 * t ≤ 1000305295 * g → 1000000000 * (t * t) ≤ 1000610684 * (g * g)
+square-high g t h =
+    let i = mul-le-mul h h in
+    let j : 1000000000 * (1000000000 * (t * t)) ≤ 1000000000 * (1000610684 * (g * g)) = omega arith in
+    le-of-mul-le-mul-left j (lit< tt)
+
+low-end : (x g t : ℕ) → whole * (8187 * x) ≤ (whole + 21) * (8192 * g) → 1000610681 * g ≤ 1000000000 * t
+    → 99999993 * x ≤ 100000000 * t
+low-end x g t h l = omega arith
+
+high-end : (x g t : ℕ) → whole * (9771875 * (8192 * g)) ≤ (whole + 21) * (9771876 * (8187 * x))
+    → 1000000000 * t ≤ 1000610684 * g
+    → 100000000 * t ≤ 100000007 * x
+high-end x g t h l = omega arith
+
+products : (i j k l a b : ℕ) → i * (j * a) ≤ k * (l * b) → i * j * a ≤ k * l * b
+products i j k l a b h = omega arith
+
+pos-of : (i j a b : ℕ) → 0 < a → suc i * a ≤ j * b → 0 < b
+pos-of i j a zero h l = absurd (omega arith)
+pos-of i j a (suc b) h l = omega arith
+
+module _ {S x a q u v z w n d g t : ℕ} (s : Steps S x a q u v z w n d g t) where
+  -- q is x to 7 parts in a hundred
+  q-low : 9318 * x ≤ 10000 * q
+  q-low =
+      let h = low-of (x * S) (a * a) (q * S) (near-of (s .q-is)) (s .low) in
+      let j : 9318 * x * S ≤ 10000 * q * S = omega arith in
+      le-of-mul-le-mul-right j (s .unit)
+
+  q-high : 9318 * q ≤ 10000 * x
+  q-high =
+      let h = high-of (x * S) (a * a) (q * S) (near-of (s .q-is)) (s .high) in
+      let j : 9318 * q * S ≤ 10000 * x * S = omega arith in
+      le-of-mul-le-mul-right j (s .unit)
+
+  square-near : Near 3 (u * 1 * (u * 1)) ((q + x) * (q + x))
+  square-near = let i = near-of (s .u-is) in near-mul 1 1 (lit≤ tt) i i
+
+  u-near : Near 3 (u * u) ((q + x) * (q + x))
+  u-near = near-same (u * u) ((q + x) * (q + x)) (rw (mul-one u)) refl square-near
+
+  -- u·u is 4 products of q and x, but for some parts in a thousand
+  u-low : 3125 * (32768 * (q * x)) ≤ 3127 * (8187 * (u * u))
+  u-low = squares-low (u * u) ((q + x) * (q + x)) (q * x) u-near (four-products q x)
+
+  u-high : 3125 * (8187 * (u * u)) ≤ 3127 * (32768 * (q * x))
+  u-high =
+      squares-high (u * u) ((q + x) * (q + x)) (q * x) u-near (few-products 9318 10000 q x q-low q-high)
+
+  -- what n is, before the rounding, in parts of 32768·S
+  abbrev sum : ℕ
+  sum = 8187 * (u * u) + 32768 * (q * x)
+
+  -- its square is 4 products of its two parts, but for 11 parts in 10^8
+  sum-low : 4 * (8187 * (u * u) * (32768 * (q * x))) ≤ sum * sum
+  sum-low = four-products (8187 * (u * u)) (32768 * (q * x))
+
+  sum-high : 9771875 * (sum * sum) ≤ 39087504 * (8187 * (u * u) * (32768 * (q * x)))
+  sum-high = few-products 3125 3127 (8187 * (u * u)) (32768 * (q * x)) u-low u-high
+
+  sum-near : Near 5 (n * 32768 * S) sum
+  sum-near =
+      let zs : Near 1 (z * 32768 * S) (v * 8187 * S) = near-times S (near-of (s .z-is)) in
+      let vs : Near 1 (v * S * 8187) (u * u * 8187) = near-times 8187 (near-of (s .v-is)) in
+      let vt : Near 1 (v * 8187 * S) (8187 * (u * u)) = near-same (v * 8187 * S) (8187 * (u * u)) (last-two v S 8187) (mul-comm (u * u) 8187) vs in
+      let zt : Near 3 (z * 32768 * S) (8187 * (u * u)) = near-trans 1 1 (lit≤ tt) zs vt in
+      let ws : Near 1 (w * S * 32768) (q * x * 32768) = near-times 32768 (near-of (s .w-is)) in
+      let wt : Near 3 (w * 32768 * S) (32768 * (q * x)) = near-more 3 (lit≤ tt) (near-same (w * 32768 * S) (32768 * (q * x)) (last-two w S 32768) (mul-comm (q * x) 32768) ws) in
+      let zw : Near 3 (z * 32768 * S + w * 32768 * S) sum = near-add zt wt in
+      let ns : Near 1 (n * 1 * (32768 * S)) ((z + w) * (32768 * S)) = near-times (32768 * S) (near-of (s .n-is)) in
+      let nt : Near 1 (n * 32768 * S) (z * 32768 * S + w * 32768 * S) = near-same (n * 32768 * S) (z * 32768 * S + w * 32768 * S) (by-one n 32768 S) (both-by z w 32768 S) ns in
+      near-trans 1 3 (lit≤ tt) nt zw
+
+  -- d·d is q·u·u
+  d-near : Near 5 (d * d * S) (q * (u * u))
+  d-near =
+      let i = near-of (s .d-is) in
+      let j : Near 3 (d * S * (d * S)) (a * u * (a * u)) = near-mul 1 1 (lit≤ tt) i i in
+      let k : Near 1 (a * a * (u * u)) (q * S * (u * u)) = near-times (u * u) (near-sym (near-of (s .q-is))) in
+      let l : Near 1 (a * u * (a * u)) (q * (u * u) * S) = near-same (a * u * (a * u)) (q * (u * u) * S) (squares a u) (last-two q S (u * u)) k in
+      let m : Near 5 (d * S * (d * S)) (q * (u * u) * S) = near-trans 3 1 (lit≤ tt) j l in
+      near-cancel (d * d * S) (q * (u * u)) S (s .unit) (near-same (d * d * S * S) (q * (u * u) * S) (squared d S) refl m)
+
+  -- g·g·q·u·u is the square of the sum
+  g-near : Near 21 (g * g * 1073741824 * (q * (u * u))) (sum * sum * S)
+  g-near =
+      let i = near-of (s .g-is) in
+      let j : Near 3 (g * d * (g * d)) (n * S * (n * S)) = near-mul 1 1 (lit≤ tt) i i in
+      let k : Near 3 (g * d * (g * d) * 1073741824) (n * S * (n * S) * 1073741824) = near-times 1073741824 j in
+      let l : Near 3 (g * d * (g * d) * 1073741824) (n * 32768 * S * (n * 32768 * S)) = near-same (g * d * (g * d) * 1073741824) (n * 32768 * S * (n * 32768 * S)) refl (squares-by n S 32768) k in
+      let m : Near 11 (n * 32768 * S * (n * 32768 * S)) (sum * sum) = near-mul 5 5 (lit≤ tt) sum-near sum-near in
+      let o : Near 15 (g * d * (g * d) * 1073741824 * S) (sum * sum * S) = near-times S (near-trans 3 11 (lit≤ tt) l m) in
+      let p : Near 5 (q * (u * u) * (g * g * 1073741824)) (d * d * S * (g * g * 1073741824)) = near-times (g * g * 1073741824) (near-sym d-near) in
+      let r : Near 5 (g * g * 1073741824 * (q * (u * u))) (g * d * (g * d) * 1073741824 * S) = near-same (g * g * 1073741824 * (q * (u * u))) (g * d * (g * d) * 1073741824 * S) (mul-comm (q * (u * u)) (g * g * 1073741824)) (moved d S g 1073741824) p in
+      near-trans 5 15 (lit≤ tt) r o
+
+  q-pos : 0 < q
+  q-pos = pos-of 9317 10000 x q (s .some) q-low
+
+  qu-pos : 0 < q * (u * u)
+  qu-pos = mul-pos q-pos (pos-of 102399999 25600749 (q * x) (u * u) (mul-pos q-pos (s .some)) (products 3125 32768 3127 8187 (q * x) (u * u) u-low))
+
+  t-near : Near 1 (t * 8388608) (g * 8391169)
+  t-near = near-of (s .t-is)
+
+  -- t·t is x, but for 7 parts in 10^8
+  pub estimate-near : (99999993 * (x * S) ≤ 100000000 * (t * t)) × (100000000 * (t * t) ≤ 100000007 * (x * S))
+  estimate-near =
+      let i = low-free S x q (u * u) (g * g) (sum * sum) qu-pos (g-near .down) sum-low in
+      let j = high-free S x q (u * u) (g * g) (sum * sum) qu-pos (g-near .up) sum-high in
+      (low-end (x * S) (g * g) (t * t) i (square-low g t (factor-low g t t-near)), high-end (x * S) (g * g) (t * t) j (square-high g t (factor-high g t t-near)))
+
+-- ---- from the estimate to the whole number
+
+-- 131,072·x is (131,072·m + 1)·S, so 262,144·x·S is twice that by S
+twice-low : (S m x t k : ℕ) → 0 < S → 131072 * x ≡ (131072 * m + 1) * S → (2 * k + 1) * S ≤ 512 * t
+    → 100000000 * (t * t) ≤ 100000007 * (x * S)
+    → 100000000 * ((2 * k + 1) * (2 * k + 1)) ≤ 100000007 * (2 * (131072 * m + 1))
+twice-low S m x t k o e h l =
+    let i : (2 * k + 1) * S * ((2 * k + 1) * S) ≤ 512 * t * (512 * t) = mul-le-mul h h in
+    let d : 131072 * x * S ≡ (131072 * m + 1) * S * S = ap (λ n. n * S) e in
+    let j : 100000000 * ((2 * k + 1) * (2 * k + 1)) * (S * S) ≤ 100000007 * (2 * (131072 * m + 1)) * (S * S) = omega arith in
+    le-of-mul-le-mul-right j (mul-pos o o)
+
+twice-high : (S m x t e : ℕ) → 0 < S → 131072 * x ≡ (131072 * m + 1) * S → 512 * t ≤ (2 * e + 1) * S
+    → 99999993 * (x * S) ≤ 100000000 * (t * t)
+    → 99999993 * (2 * (131072 * m + 1)) ≤ 100000000 * ((2 * e + 1) * (2 * e + 1))
+twice-high S m x t e o p h l =
+    let i : 512 * t * (512 * t) ≤ (2 * e + 1) * S * ((2 * e + 1) * S) = mul-le-mul h h in
+    let d : 131072 * x * S ≡ (131072 * m + 1) * S * S = ap (λ n. n * S) p in
+    let j : 99999993 * (2 * (131072 * m + 1)) * (S * S) ≤ 100000000 * ((2 * e + 1) * (2 * e + 1)) * (S * S) = omega arith in
+    le-of-mul-le-mul-right j (mul-pos o o)
+
+below-of : (b k : ℕ) → k * k < b * b → k < b
+below-of b k h = by (ltb k b) refl
+  where
+    by : (t : Bool) → ltb k b ≡ t → k < b
+    by true e = ltb-true k b e
+    by false e = let l = ltb-false k b e in let i = mul-le-mul l l in absurd (omega arith)
+
+-- One step too far would be a part in 1.2e7 too far.
+step-low : (m k : ℕ) → m < 2147483648
+    → 100000000 * ((2 * k + 1) * (2 * k + 1)) ≤ 100000007 * (2 * (131072 * m + 1))
+    → k * k ≤ 65536 * m
+step-low m k h l =
+    let b = below-of 12000000 k (omega arith) in
+    let i : k * k ≤ 12000000 * k = mul-le-mul-right k (omega arith) in
+    by (ltb (65536 * m) (k * k)) refl i
+  where
+    by : (t : Bool) → ltb (65536 * m) (k * k) ≡ t → k * k ≤ 12000000 * k → k * k ≤ 65536 * m
+    by true e i = let j = ltb-true (65536 * m) (k * k) e in absurd (omega arith)
+    by false e i = ltb-false (65536 * m) (k * k) e
+
+step-high : (m e : ℕ) → m < 2147483648
+    → 99999993 * (2 * (131072 * m + 1)) ≤ 100000000 * ((2 * e + 1) * (2 * e + 1))
+    → 65536 * m < (e + 1) * (e + 1)
+step-high m e h l = by (ltb (65536 * m) ((e + 1) * (e + 1))) refl
+  where
+    by : (t : Bool) → ltb (65536 * m) ((e + 1) * (e + 1)) ≡ t → 65536 * m < (e + 1) * (e + 1)
+    by true d = ltb-true (65536 * m) ((e + 1) * (e + 1)) d
+    by false d =
+        let j = ltb-false (65536 * m) ((e + 1) * (e + 1)) d in
+        let b = below-of 12000000 (e + 1) (omega arith) in
+        let i : e * e ≤ 12000000 * e = mul-le-mul-right e (omega arith) in
+        absurd (omega arith)
+
+small-of : (m e : ℕ) → m < 2147483648 → ((k : ℕ) → k + 1 ≡ e → k * k ≤ 65536 * m) → e < 16777216
+small-of m zero h f = omega arith
+small-of m (suc k) h f =
+    let i = f k (omega arith) in
+    let b = below-of 12000000 k (omega arith) in
+    omega arith
+
+-- x is m + 2^-17 ones of S, and e is 256·t, rounded to the nearest.
+pub estimate-steps : (S m x t e : ℕ) → 0 < S → m < 2147483648 → 131072 * x ≡ (131072 * m + 1) * S
+    → 512 * t ≤ 2 * e * S + S
+    → 2 * e * S ≤ 512 * t + S
+    → 99999993 * (x * S) ≤ 100000000 * (t * t)
+    → 100000000 * (t * t) ≤ 100000007 * (x * S)
+    → ((k : ℕ) → k + 1 ≡ e → k * k ≤ 65536 * m) × (65536 * m < (e + 1) * (e + 1)) × (e < 2 ^ 24)
+estimate-steps S m x t e o h d u v l r = (low, step-high m e h (twice-high S m x t e o d (omega arith) l), small-of m e h low)
+  where
+    low : (k : ℕ) → k + 1 ≡ e → k * k ≤ 65536 * m
+    low k c =
+        let i : (k + 1) * S ≡ e * S = ap (λ n. n * S) c in
+        step-low m k h (twice-low S m x t k o d (omega arith) r)
