@@ -143,10 +143,10 @@ abbrev upperOf : Float → Float → Float
 upperOf x a = add binary64 (mul binary64 (squareOf (sumOf x a)) quarter) (mul binary64 (squareOf a) x)
 
 abbrev ratioOf : Float → Float → Float
-ratioOf x a = div binary64 (upperOf x a) (mul binary64 a (sumOf x a))
+ratioOf x a = div binary64 factor (mul binary64 a (sumOf x a))
 
 abbrev pub nearOf : Float → Float → Float
-nearOf x a = mul binary64 (ratioOf x a) factor
+nearOf x a = mul binary64 (upperOf x a) (ratioOf x a)
 
 module _ (m : ℕ) (x a : Float) (h : m < 2147483648) (ex : x ≡ numberOf m) (ea : a ≡ firstOf x) where
   x-value : HasValue x false (numberSize m) unit
@@ -193,16 +193,16 @@ module _ (m : ℕ) (x a : Float) (h : m < 2147483648) (ex : x ≡ numberOf m) (e
   d : Result (mul binary64 a (sumOf x a)) (f .size * u .size) unit (2 ^ 52)
   d = mul-result a (sumOf x a) (2 ^ 16) (2 ^ 35) (f .size) (u .size) a-value (u .value) a-sized (u .sized) tt
 
-  g : Result (ratioOf x a) (n .size * unit) (d .size) (2 ^ 130)
+  g : Result (ratioOf x a) (factorSize * unit) (d .size) (2 ^ 54)
   g =
-      div-result (upperOf x a) (mul binary64 a (sumOf x a)) (2 ^ 77) (2 ^ 52) (n .size) (d .size) (n .value) (d .value) (n .sized) (d .sized)
+      div-result factor (mul binary64 a (sumOf x a)) 2 (2 ^ 52) factorSize (d .size) factor-value (d .value) factor-sized (d .sized)
       (sized-some unit (2 ^ 52) (d .size) (pow-pos 1074) (d .sized))
       tt
 
-  t : Result (nearOf x a) (g .size * factorSize) unit (2 ^ 132)
-  t = mul-result (ratioOf x a) factor (2 ^ 130) 2 (g .size) factorSize (g .value) factor-value (g .sized) factor-sized tt
+  t : Result (nearOf x a) (n .size * g .size) unit (2 ^ 132)
+  t = mul-result (upperOf x a) (ratioOf x a) (2 ^ 77) (2 ^ 54) (n .size) (g .size) (n .value) (g .value) (n .sized) (g .sized) tt
 
-  steps : Steps unit (numberSize m) (f .size) (q .size) (u .size) (v .size) (z .size) (w .size) (n .size) (d .size) (g .size) (t .size)
+  steps : Steps unit factorSize (numberSize m) (f .size) (q .size) (u .size) (v .size) (z .size) (w .size) (n .size) (d .size) (g .size) (t .size)
   steps =
       record {
         unit = pow-pos 1074;
@@ -216,8 +216,9 @@ module _ (m : ℕ) (x a : Float) (h : m < 2147483648) (ex : x ≡ numberOf m) (e
         w-is = w .within;
         n-is = n .within;
         d-is = d .within;
+        f-is = refl;
         g-is = g .within;
-        t-is = as-fraction (t .size) (g .size) factorSize unit 8391169 8388608 (pow-pos 1074) refl (t .within);
+        t-is = t .within;
       }
 
   pub near-estimate : Estimate m (add binary64 (nearOf x a) (fin false 1 (pos 44)))

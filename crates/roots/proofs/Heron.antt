@@ -5,7 +5,7 @@ use mathlib.Core.Bool.{Bool, true, false}
 use lib.Dec.{ltb, lit≤, lit<}
 use Prim.Native.Nat.{ℕ, zero, suc, _+_, _*_, _^_, _≤_, _<_}
 use native.Mathlib.Omega.{arith}
-use native.Mathlib.Nat.{mul-one, mul-comm, mul-pos, mul-le-mul, mul-le-mul-right, le-of-mul-le-mul-left, le-of-mul-le-mul-right}
+use native.Mathlib.Nat.{mul-one, mul-comm, mul-pos, mul-le-mul, mul-le-mul-left, mul-le-mul-right, le-of-mul-le-mul-right}
 use borrow.Author.Tests.{ltb-true, ltb-false}
 use Rattle.roots.proofs.Rounding.{Within}
 use Rattle.roots.proofs.Near.{
@@ -23,8 +23,8 @@ use Rattle.roots.proofs.Near.{
   few-products,
 }
 
--- From a first estimate a of the root of x to a better one, t; S stands for 1.
-pub record Steps (S x a q u v z w n d g t : ℕ) : Type 0 where
+-- From a first estimate a of the root of x to a better one, t; S stands for 1, and f for 8391169 / 8388608.
+pub record Steps (S f x a q u v z w n d g t : ℕ) : Type 0 where
   pub unit : 0 < S
   pub some : 0 < x
   pub low : 932 * (x * S) ≤ 1000 * (a * a)
@@ -36,8 +36,9 @@ pub record Steps (S x a q u v z w n d g t : ℕ) : Type 0 where
   pub w-is : Within w (q * x) S
   pub n-is : Within n (z + w) 1
   pub d-is : Within d (a * u) S
-  pub g-is : Within g (n * S) d
-  pub t-is : Within t (g * 8391169) 8388608
+  pub f-is : 8388608 * f ≡ 8391169 * S
+  pub g-is : Within g (f * S) d
+  pub t-is : Within t (n * g) S
 
 near-of : {r y d : ℕ} → Within r y d → Near 1 (r * d) y
 near-of h = record { up = omega arith; down = omega arith }
@@ -78,47 +79,78 @@ squared d S = omega arith
 moved : (d S g c : ℕ) → d * d * S * (g * g * c) ≡ g * d * (g * d) * c * S
 moved d S g c = omega arith
 
+ones-last : (t S d k : ℕ) → t * S * (d * k) ≡ t * k * d * S
+ones-last t S d k = omega arith
+
+swapped : (n g d k : ℕ) → n * g * (d * k) ≡ g * d * (n * k)
+swapped n g d k = omega arith
+
+in-parts : (n b S c : ℕ) → n * b * S * c ≡ n * c * b * S
+in-parts n b S c = omega arith
+
+-- f is c / k
+of-factor : (S f n k c : ℕ) → k * f ≡ c * S → f * S * (n * k) ≡ n * c * S * S
+of-factor S f n k c e = let i : k * f * (n * S) ≡ c * S * (n * S) = ap (λ y. y * (n * S)) e in omega arith
+
 -- p and q are factors of both sides, and go.
-low-free : (S x q p g m : ℕ) → 0 < q * p → whole * (m * S) ≤ (whole + 21) * (g * 1073741824 * (q * p))
+low-free : (S x q p g m : ℕ) → 0 < q * p → whole * (m * S) ≤ (whole + 25) * (g * 1073741824 * (q * p))
     → 4 * (8187 * p * (32768 * (q * x))) ≤ m
-    → whole * (8187 * (x * S)) ≤ (whole + 21) * (8192 * g)
+    → whole * (8187 * (x * S)) ≤ (whole + 25) * (8192 * g)
 low-free S x q p g m o h l =
     let i : 4 * (8187 * p * (32768 * (q * x))) * S ≤ m * S = mul-le-mul-right S l in
-    let j : whole * (8187 * (x * S)) * (q * p) ≤ (whole + 21) * (8192 * g) * (q * p) = omega arith in
+    let j : whole * (8187 * (x * S)) * (q * p) ≤ (whole + 25) * (8192 * g) * (q * p) = omega arith in
     le-of-mul-le-mul-right j o
 
-high-free : (S x q p g m : ℕ) → 0 < q * p → whole * (g * 1073741824 * (q * p)) ≤ (whole + 21) * (m * S)
+high-free : (S x q p g m : ℕ) → 0 < q * p → whole * (g * 1073741824 * (q * p)) ≤ (whole + 25) * (m * S)
     → 9771875 * m ≤ 39087504 * (8187 * p * (32768 * (q * x)))
-    → whole * (9771875 * (8192 * g)) ≤ (whole + 21) * (9771876 * (8187 * (x * S)))
+    → whole * (9771875 * (8192 * g)) ≤ (whole + 25) * (9771876 * (8187 * (x * S)))
 high-free S x q p g m o h l =
     let i : 9771875 * m * S ≤ 39087504 * (8187 * p * (32768 * (q * x))) * S = mul-le-mul-right S l in
-    let j : whole * (9771875 * (8192 * g)) * (q * p) ≤ (whole + 21) * (9771876 * (8187 * (x * S))) * (q * p) = omega arith in
+    let j : whole * (9771875 * (8192 * g)) * (q * p) ≤ (whole + 25) * (9771876 * (8187 * (x * S))) * (q * p) = omega arith in
     le-of-mul-le-mul-right j o
 
--- the factor 8391169 / 8388608, and its square
-factor-low : (g t : ℕ) → Near 1 (t * 8388608) (g * 8391169) → 1000305294 * g ≤ 1000000000 * t
-factor-low g t h = omega arith
+-- a bound on the square of s is one on that of s·c
+scaled-low : (p q x s c : ℕ) → 4 * (8187 * p * (32768 * (q * x))) ≤ s * s
+    → 4 * (8187 * p * (32768 * (q * (x * (c * c))))) ≤ s * c * (s * c)
+scaled-low p q x s c h =
+    let i : 4 * (8187 * p * (32768 * (q * x))) * (c * c) ≤ s * s * (c * c) = mul-le-mul-right (c * c) h in
+    omega arith
 
-factor-high : (g t : ℕ) → Near 1 (t * 8388608) (g * 8391169) → 1000000000 * t ≤ 1000305295 * g
-factor-high g t h = omega arith
+scaled-high : (p q x s c : ℕ) → 9771875 * (s * s) ≤ 39087504 * (8187 * p * (32768 * (q * x)))
+    → 9771875 * (s * c * (s * c)) ≤ 39087504 * (8187 * p * (32768 * (q * (x * (c * c)))))
+scaled-high p q x s c h =
+    let i : 9771875 * (s * s) * (c * c) ≤ 39087504 * (8187 * p * (32768 * (q * x))) * (c * c) = mul-le-mul-right (c * c) h in
+    omega arith
 
-square-low : (g t : ℕ) → 1000305294 * g ≤ 1000000000 * t → 1000610681 * (g * g) ≤ 1000000000 * (t * t)
-square-low g t h = let i = mul-le-mul h h in omega arith
+-- the square of the factor c / k against a / b
+square-low : (S x t k c a b : ℕ) → 0 < k → a * (k * k) ≤ b * (c * c)
+    → whole * (8187 * (x * (c * c) * S)) ≤ (whole + 25) * (8192 * (t * k * (t * k)))
+    → whole * (8187 * (a * (x * S))) ≤ (whole + 25) * (8192 * (b * (t * t)))
+square-low S x t k c a b o f h =
+    let i : a * (k * k) * (x * S) ≤ b * (c * c) * (x * S) = mul-le-mul-right (x * S) f in
+    let l : b * (whole * (8187 * (x * (c * c) * S))) ≤ b * ((whole + 25) * (8192 * (t * k * (t * k)))) = mul-le-mul-left b h in
+    let j : whole * (8187 * (a * (x * S))) * (k * k) ≤ (whole + 25) * (8192 * (b * (t * t))) * (k * k) = omega arith in
+    le-of-mul-le-mul-right j (mul-pos o o)
 
-square-high : (g t : ℕ) → 1000000000 * t ≤ 1000305295 * g → 1000000000 * (t * t) ≤ 1000610684 * (g * g)
-square-high g t h =
-    let i = mul-le-mul h h in
-    let j : 1000000000 * (1000000000 * (t * t)) ≤ 1000000000 * (1000610684 * (g * g)) = omega arith in
-    le-of-mul-le-mul-left j (lit< tt)
+square-high : (S x t k c a b : ℕ) → 0 < k → b * (c * c) ≤ a * (k * k)
+    → whole * (9771875 * (8192 * (t * k * (t * k)))) ≤ (whole + 25) * (9771876 * (8187 * (x * (c * c) * S)))
+    → whole * (9771875 * (8192 * (b * (t * t)))) ≤ (whole + 25) * (9771876 * (8187 * (a * (x * S))))
+square-high S x t k c a b o f h =
+    let i : b * (c * c) * (x * S) ≤ a * (k * k) * (x * S) = mul-le-mul-right (x * S) f in
+    let l : b * (whole * (9771875 * (8192 * (t * k * (t * k))))) ≤ b * ((whole + 25) * (9771876 * (8187 * (x * (c * c) * S)))) = mul-le-mul-left b h in
+    let j : whole * (9771875 * (8192 * (b * (t * t)))) * (k * k) ≤ (whole + 25) * (9771876 * (8187 * (a * (x * S)))) * (k * k) = omega arith in
+    le-of-mul-le-mul-right j (mul-pos o o)
 
-low-end : (x g t : ℕ) → whole * (8187 * x) ≤ (whole + 21) * (8192 * g) → 1000610681 * g ≤ 1000000000 * t
+-- that of 8391169 / 8388608 is between 11470 / 11463 and 3277 / 3275
+low-end : (x t : ℕ) → whole * (8187 * (11470 * x)) ≤ (whole + 25) * (8192 * (11463 * t))
     → 99999993 * x ≤ 100000000 * t
-low-end x g t h l = omega arith
+low-end x t h = omega arith
 
-high-end : (x g t : ℕ) → whole * (9771875 * (8192 * g)) ≤ (whole + 21) * (9771876 * (8187 * x))
-    → 1000000000 * t ≤ 1000610684 * g
-    → 100000000 * t ≤ 100000007 * x
-high-end x g t h l = omega arith
+high-parts : (x t : ℕ) → whole * (9771875 * (8192 * t)) ≤ (whole + 25) * (9771876 * (8187 * x)) → 1000000000 * t ≤ 999389751 * x
+high-parts x t h = omega arith
+
+high-end : (x t : ℕ) → 1000000000 * (3275 * t) ≤ 999389751 * (3277 * x) → 100000000 * t ≤ 100000007 * x
+high-end x t h = omega arith
 
 products : (i j k l a b : ℕ) → i * (j * a) ≤ k * (l * b) → i * j * a ≤ k * l * b
 products i j k l a b h = omega arith
@@ -127,7 +159,7 @@ pos-of : (i j a b : ℕ) → 0 < a → suc i * a ≤ j * b → 0 < b
 pos-of i j a zero h l = absurd (omega arith)
 pos-of i j a (suc b) h l = omega arith
 
-module _ {S x a q u v z w n d g t : ℕ} (s : Steps S x a q u v z w n d g t) where
+module _ {S f x a q u v z w n d g t : ℕ} (s : Steps S f x a q u v z w n d g t) where
   -- q is x to 7 parts in a hundred
   q-low : 9318 * x ≤ 10000 * q
   q-low =
@@ -189,18 +221,36 @@ module _ {S x a q u v z w n d g t : ℕ} (s : Steps S x a q u v z w n d g t) whe
       let m : Near 5 (d * S * (d * S)) (q * (u * u) * S) = near-trans 3 1 (lit≤ tt) j l in
       near-cancel (d * d * S) (q * (u * u)) S (s .unit) (near-same (d * d * S * S) (q * (u * u) * S) (squared d S) refl m)
 
-  -- g·g·q·u·u is the square of the sum
-  g-near : Near 21 (g * g * 1073741824 * (q * (u * u))) (sum * sum * S)
-  g-near =
-      let i = near-of (s .g-is) in
-      let j : Near 3 (g * d * (g * d)) (n * S * (n * S)) = near-mul 1 1 (lit≤ tt) i i in
-      let k : Near 3 (g * d * (g * d) * 1073741824) (n * S * (n * S) * 1073741824) = near-times 1073741824 j in
-      let l : Near 3 (g * d * (g * d) * 1073741824) (n * 32768 * S * (n * 32768 * S)) = near-same (g * d * (g * d) * 1073741824) (n * 32768 * S * (n * 32768 * S)) refl (squares-by n S 32768) k in
-      let m : Near 11 (n * 32768 * S * (n * 32768 * S)) (sum * sum) = near-mul 5 5 (lit≤ tt) sum-near sum-near in
-      let o : Near 15 (g * d * (g * d) * 1073741824 * S) (sum * sum * S) = near-times S (near-trans 3 11 (lit≤ tt) l m) in
-      let p : Near 5 (q * (u * u) * (g * g * 1073741824)) (d * d * S * (g * g * 1073741824)) = near-times (g * g * 1073741824) (near-sym d-near) in
-      let r : Near 5 (g * g * 1073741824 * (q * (u * u))) (g * d * (g * d) * 1073741824 * S) = near-same (g * g * 1073741824 * (q * (u * u))) (g * d * (g * d) * 1073741824 * S) (mul-comm (q * (u * u)) (g * g * 1073741824)) (moved d S g 1073741824) p in
-      near-trans 5 15 (lit≤ tt) r o
+  -- t and the sum, each by its part of the factor
+  abbrev top : ℕ
+  top = t * 8388608
+
+  abbrev all : ℕ
+  all = sum * 8391169
+
+  -- t is n / d by the factor
+  ratio-near : Near 3 (top * d) (n * 8391169 * S)
+  ratio-near =
+      let i : Near 1 (t * S * (d * 8388608)) (n * g * (d * 8388608)) = near-times (d * 8388608) (near-of (s .t-is)) in
+      let j : Near 1 (g * d * (n * 8388608)) (f * S * (n * 8388608)) = near-times (n * 8388608) (near-of (s .g-is)) in
+      let k : Near 1 (top * d * S) (g * d * (n * 8388608)) = near-same (top * d * S) (g * d * (n * 8388608)) (ones-last t S d 8388608) (swapped n g d 8388608) i in
+      let l : Near 1 (g * d * (n * 8388608)) (n * 8391169 * S * S) = near-same (g * d * (n * 8388608)) (n * 8391169 * S * S) refl (of-factor S f n 8388608 8391169 (s .f-is)) j in
+      near-cancel (top * d) (n * 8391169 * S) S (s .unit) (near-trans 1 1 (lit≤ tt) k l)
+
+  all-near : Near 5 (n * 8391169 * 32768 * S) all
+  all-near = near-same (n * 8391169 * 32768 * S) all (in-parts n 32768 S 8391169) refl (near-times 8391169 sum-near)
+
+  -- t·t·q·u·u is the square of the sum, by that of the factor
+  t-near : Near 25 (top * top * 1073741824 * (q * (u * u))) (all * all * S)
+  t-near =
+      let j : Near 7 (top * d * (top * d)) (n * 8391169 * S * (n * 8391169 * S)) = near-mul 3 3 (lit≤ tt) ratio-near ratio-near in
+      let k : Near 7 (top * d * (top * d) * 1073741824) (n * 8391169 * S * (n * 8391169 * S) * 1073741824) = near-times 1073741824 j in
+      let l : Near 7 (top * d * (top * d) * 1073741824) (n * 8391169 * 32768 * S * (n * 8391169 * 32768 * S)) = near-same (top * d * (top * d) * 1073741824) (n * 8391169 * 32768 * S * (n * 8391169 * 32768 * S)) refl (squares-by (n * 8391169) S 32768) k in
+      let m : Near 11 (n * 8391169 * 32768 * S * (n * 8391169 * 32768 * S)) (all * all) = near-mul 5 5 (lit≤ tt) all-near all-near in
+      let o : Near 19 (top * d * (top * d) * 1073741824 * S) (all * all * S) = near-times S (near-trans 7 11 (lit≤ tt) l m) in
+      let p : Near 5 (q * (u * u) * (top * top * 1073741824)) (d * d * S * (top * top * 1073741824)) = near-times (top * top * 1073741824) (near-sym d-near) in
+      let r : Near 5 (top * top * 1073741824 * (q * (u * u))) (top * d * (top * d) * 1073741824 * S) = near-same (top * top * 1073741824 * (q * (u * u))) (top * d * (top * d) * 1073741824 * S) (mul-comm (q * (u * u)) (top * top * 1073741824)) (moved d S top 1073741824) p in
+      near-trans 5 19 (lit≤ tt) r o
 
   q-pos : 0 < q
   q-pos = pos-of 9317 10000 x q (s .some) q-low
@@ -208,15 +258,14 @@ module _ {S x a q u v z w n d g t : ℕ} (s : Steps S x a q u v z w n d g t) whe
   qu-pos : 0 < q * (u * u)
   qu-pos = mul-pos q-pos (pos-of 102399999 25600749 (q * x) (u * u) (mul-pos q-pos (s .some)) (products 3125 32768 3127 8187 (q * x) (u * u) u-low))
 
-  t-near : Near 1 (t * 8388608) (g * 8391169)
-  t-near = near-of (s .t-is)
-
   -- t·t is x, but for 7 parts in 10^8
   pub estimate-near : (99999993 * (x * S) ≤ 100000000 * (t * t)) × (100000000 * (t * t) ≤ 100000007 * (x * S))
   estimate-near =
-      let i = low-free S x q (u * u) (g * g) (sum * sum) qu-pos (g-near .down) sum-low in
-      let j = high-free S x q (u * u) (g * g) (sum * sum) qu-pos (g-near .up) sum-high in
-      (low-end (x * S) (g * g) (t * t) i (square-low g t (factor-low g t t-near)), high-end (x * S) (g * g) (t * t) j (square-high g t (factor-high g t t-near)))
+      let i = low-free S (x * (8391169 * 8391169)) q (u * u) (top * top) (all * all) qu-pos (t-near .down) (scaled-low (u * u) q x sum 8391169 sum-low) in
+      let j = high-free S (x * (8391169 * 8391169)) q (u * u) (top * top) (all * all) qu-pos (t-near .up) (scaled-high (u * u) q x sum 8391169 sum-high) in (
+        low-end (x * S) (t * t) (square-low S x t 8388608 8391169 11470 11463 (lit< tt) (lit≤ tt) i),
+        high-end (x * S) (t * t) (high-parts (3277 * (x * S)) (3275 * (t * t)) (square-high S x t 8388608 8391169 3277 3275 (lit< tt) (lit≤ tt) j)),
+      )
 
 -- ---- from the estimate to the whole number
 

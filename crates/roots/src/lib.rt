@@ -54,7 +54,7 @@ fn estimate(x: f64) -> f64
     let a = first(x);
     let q = a * a;
     let u = q + x;
-    (u * u * 0.249847412109375 + q * x) / (a * u) * 1.00030529499053955078125 + 17592186044416.0
+    (u * u * 0.249847412109375 + q * x) * (1.00030529499053955078125 / (a * u)) + 17592186044416.0
 }
 
 // The estimate, or one less where its square is above.
