@@ -187,22 +187,30 @@ endsGrid p =
       stepZ = pos 0;
     }
 
--- Where child number m is, with the numbers of parts as they were computed.
-pub record Spot (p : Cell) (n m nx ny nz : ℕ) : Type 0 where
+-- Where child number m is, with the numbers of parts and the digits of m as they were computed.
+pub record Spot (p : Cell) (n m nx ny nz column row above : ℕ) : Type 0 where
   pub some-x : 1 ≤ nx
   pub some-y : 1 ≤ ny
-  pub in-layers : m / nx / ny < nz
-  pub x-in : p .x + m % nx * n < p .xend
-  pub y-in : p .y + m / nx % ny * n < p .yend
-  pub z-in : p .z + (nz - 1 - m / nx / ny) * n < p .zend
-  pub x-to : p .x + m % nx * n + n ≤ p .x + p .side
-  pub y-to : p .y + m / nx % ny * n + n ≤ p .y + p .side
-  pub z-to : p .z + (nz - 1 - m / nx / ny) * n + n ≤ p .z + p .side
-  pub x-last : p .x + m % nx * n + n ≤ lastEnd (p .x) (p .xend) n
-  pub y-last : p .y + m / nx % ny * n + n ≤ lastEnd (p .y) (p .yend) n
+  pub in-layers : above < nz
+  pub x-in : p .x + column * n < p .xend
+  pub y-in : p .y + row * n < p .yend
+  pub z-in : p .z + (nz - 1 - above) * n < p .zend
+  pub x-to : p .x + column * n + n ≤ p .x + p .side
+  pub y-to : p .y + row * n + n ≤ p .y + p .side
+  pub z-to : p .z + (nz - 1 - above) * n + n ≤ p .z + p .side
+  pub x-last : p .x + column * n + n ≤ lastEnd (p .x) (p .xend) n
+  pub y-last : p .y + row * n + n ≤ lastEnd (p .y) (p .yend) n
   pub next : drop m (childrenIn p n)
-      ≡ region (p .x + m % nx * n) (p .y + m / nx % ny * n) (p .z + (nz - 1 - m / nx / ny) * n) n
+      ≡ region (p .x + column * n) (p .y + row * n) (p .z + (nz - 1 - above) * n) n
       ∷ drop (suc m) (childrenIn p n)
+
+-- Its place by the digits of m themselves.
+abbrev pub SpotBy : Cell → ℕ → ℕ → ℕ → ℕ → ℕ → Type 0
+SpotBy p n m nx ny nz = Spot p n m nx ny nz (m % nx) (m / nx % ny) (m / nx / ny)
+
+pub spot-at : {p : Cell} {n m nx ny nz before column row above : ℕ} → SpotBy p n m nx ny nz → before ≡ m / nx
+    → column ≡ m % nx → above ≡ before / ny → row ≡ before % ny → Spot p n m nx ny nz column row above
+spot-at s eb ec ea er = rw (ec, ea, er, eb) s
 
 module _ {p : Cell} {n : ℕ} (k : Parent p n) where
   part-to : (x e a : ℕ) → Axis x e (p .side) → a < partsIn x e n → x + a * n + n ≤ x + p .side
@@ -213,7 +221,7 @@ module _ {p : Cell} {n : ℕ} (k : Parent p n) where
   part-last : (x e a : ℕ) → a < partsIn x e n → x + a * n + n ≤ lastEnd x e n
   part-last x e a t = omega (arith, mul-le-mul-right n t)
 
-  pub child-spot : (m : ℕ) → m < length (childrenIn p n) → Spot p n m (across k) (rows k) (deep k)
+  pub child-spot : (m : ℕ) → m < length (childrenIn p n) → SpotBy p n m (across k) (rows k) (deep k)
   child-spot m h =
       let d = child-digits k m h in
       let t : deep k - 1 - m / across k / rows k < deep k = omega (arith, d .layer) in
@@ -233,24 +241,24 @@ module _ {p : Cell} {n : ℕ} (k : Parent p n) where
       }
 
   pub spot : {nx ny nz : ℕ} (m : ℕ) → nx ≡ across k → ny ≡ rows k → nz ≡ deep k → m < length (childrenIn p n)
-      → Spot p n m nx ny nz
+      → SpotBy p n m nx ny nz
   spot m ex ey ez h = rw (ex, ey, ez) (child-spot m h)
 
   -- The child as a cell.
-  pub child-of : {nx ny nz : ℕ} (m : ℕ) (xend yend zend : ℕ) → Spot p n m nx ny nz
-      → xend ≡ lesser (p .xend) (p .x + m % nx * n + n)
-      → yend ≡ lesser (p .yend) (p .y + m / nx % ny * n + n)
-      → zend ≡ lesser (p .zend) (p .z + (nz - 1 - m / nx / ny) * n + n)
+  pub child-of : {nx ny nz column row above : ℕ} (m : ℕ) (xend yend zend : ℕ) → Spot p n m nx ny nz column row above
+      → xend ≡ lesser (p .xend) (p .x + column * n + n)
+      → yend ≡ lesser (p .yend) (p .y + row * n + n)
+      → zend ≡ lesser (p .zend) (p .z + (nz - 1 - above) * n + n)
       → ChildOf p n m (record {
-        x = p .x + m % nx * n;
+        x = p .x + column * n;
         xend = xend;
-        y = p .y + m / nx % ny * n;
+        y = p .y + row * n;
         yend = yend;
-        z = p .z + (nz - 1 - m / nx / ny) * n;
+        z = p .z + (nz - 1 - above) * n;
         zend = zend;
         side = n;
       })
-  child-of {nx} {ny} {nz} m xend yend zend s ex ey ez =
+  child-of {nz = nz} {column} {row} {above} m xend yend zend s ex ey ez =
       record {
         next = s .next;
         ok = λ layers grid c.
@@ -261,9 +269,9 @@ module _ {p : Cell} {n : ℕ} (k : Parent p n) where
             };
         cell = λ layers grid c.
             record {
-              xs = whole-ends (m % nx) xend (c .xs) (k .some) (s .x-in) ex;
-              ys = whole-ends (m / nx % ny) yend (c .ys) (k .some) (s .y-in) ey;
-              zs = whole-ends (nz - 1 - m / nx / ny) zend (c .zs) (k .some) (s .z-in) ez;
+              xs = whole-ends column xend (c .xs) (k .some) (s .x-in) ex;
+              ys = whole-ends row yend (c .ys) (k .some) (s .y-in) ey;
+              zs = whole-ends (nz - 1 - above) zend (c .zs) (k .some) (s .z-in) ez;
             };
         side = refl;
         column = _;

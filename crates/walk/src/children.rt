@@ -2,6 +2,7 @@
 use crate::cell::Cell;
 use crate::cell::lesser;
 ghost use mathlib.Core.Path.{_≡_};
+ghost use Prim.Native.Nat.{_/_, _%_, _<_};
 ghost use lib.ListN.{length};
 ghost use Rattle.walk.specs.Children.{ForParts, partsIn, Parent, childrenIn, ForChild, ChildOf};
 
@@ -23,6 +24,30 @@ pub fn child_count(parent: Cell, side: u32) -> u32
     layers * (rows * across)
 }
 
+// A number over the parts of an axis, and what is left of it. A region that the grid's edge does not cut has eight or
+// four parts: then no division is made. One takes longer than all else here.
+fn over(m: u32, n: u32) -> u32
+    requires { ⌜ 0 < n ⌝ }
+    ensures { λ r. ⌜ r ≡ m / n ⌝ }
+{
+    match n {
+        8 => m / 8,
+        4 => m / 4,
+        _ => m / n,
+    }
+}
+
+fn rest(m: u32, n: u32) -> u32
+    requires { ⌜ 0 < n ⌝ }
+    ensures { λ r. ⌜ r ≡ m % n ⌝ }
+{
+    match n {
+        8 => m % 8,
+        4 => m % 4,
+        _ => m % n,
+    }
+}
+
 pub fn child(parent: Cell, side: u32, m: u32) -> Cell
     requires { ⌜ ForChild parent side m ⌝ }
     ensures { λ r. ⌜ ChildOf parent side m r ⌝ }
@@ -30,10 +55,13 @@ pub fn child(parent: Cell, side: u32, m: u32) -> Cell
     let across = parts(parent.x, parent.xend, side);
     let rows = parts(parent.y, parent.yend, side);
     let layers = parts(parent.z, parent.zend, side);
-    let row = m / across;
-    let x = parent.x + m % across * side;
-    let y = parent.y + row % rows * side;
-    let z = parent.z + (layers - 1 - row / rows) * side;
+    let before = over(m, across);
+    let column = rest(m, across);
+    let above = over(before, rows);
+    let row = rest(before, rows);
+    let x = parent.x + column * side;
+    let y = parent.y + row * side;
+    let z = parent.z + (layers - 1 - above) * side;
     Cell {
         x: x,
         xend: lesser(parent.xend, x + side),
