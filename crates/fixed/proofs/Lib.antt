@@ -3,3 +3,4 @@ pub mod Words
 pub mod Ends
 pub mod Division
 pub mod Spans
+pub mod Quotients

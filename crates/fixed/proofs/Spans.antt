@@ -1,14 +1,14 @@
 -- Both ends of a range at once.
-use mathlib.Core.Path.{_≡_, ap, _∙_}
-use mathlib.Core.Bool.{_&&_, not}
+use mathlib.Core.Path.{_≡_, sym, ap, _∙_}
+use mathlib.Core.Bool.{true, _&&_, not}
 use lib.IntN.{ℤ, pos}
-use lib.Signed.{ltZ, mag}
+use lib.Signed.{ltZ, leZ, mag}
 use Prim.Native.Nat.{ℕ, _<_, _^_}
 use mir.Syntax.{w32}
 use mir.Val.{SFits}
 use mir.Facts.{toZ-ofZ}
 use Rattle.rules.specs.Values.{pick, below, range, holdsZero, sideBelow}
-use Rattle.fixed.specs.Shapes.{rangeIn}
+use Rattle.fixed.specs.Shapes.{rangeIn, InOrder}
 use Rattle.fixed.specs.declared.span.Span.{Span}
 use Rattle.fixed.proofs.Words.{read, both, back-one, back-two}
 use Rattle.fixed.proofs.Ends.{negative}
@@ -53,3 +53,14 @@ side-of a b r f g e =
     ∙ both (λ t u. pick t 1 (pick u 2 0))
     (both below (toZ-ofZ (f .high)) (toZ-ofZ (g .low)))
     (both below (toZ-ofZ (g .high)) (toZ-ofZ (f .low)))
+
+-- Whether the ends of two spans are in order, and the second lies above 0, by tests of words.
+pub in-order : {a b : Span} → Fit a → Fit b → ltZ (pos 0) (read w32 (b .low)) ≡ true
+    → leZ (read w32 (a .low)) (read w32 (a .high)) ≡ true → leZ (read w32 (b .low)) (read w32 (b .high)) ≡ true
+    → InOrder a b
+in-order {a} {b} f g p q r =
+    record {
+      first = sym (both leZ (toZ-ofZ (f .low)) (toZ-ofZ (f .high))) ∙ q;
+      second = sym (both leZ (toZ-ofZ (g .low)) (toZ-ofZ (g .high))) ∙ r;
+      above = sym (ap (λ z. ltZ (pos 0) z) (toZ-ofZ (g .low))) ∙ p;
+    }

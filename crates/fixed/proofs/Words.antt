@@ -17,6 +17,10 @@ pub use Rattle.rules.proofs.Words.{read, wide, read-wide, read-fits, back, both
 pub read-value : {z : ℤ} → SFits w32 z → IsValue z → IsValue (read w32 z)
 read-value {z} f h = rw (toZ-ofZ {w = w32} {z = z} f) h
 
+-- The word that a number was written to.
+pub word-is : {w : Width} {u : ℕ} {z : ℤ} → SFits w z → u ≡ ofZ w z → toZ w u ≡ z
+word-is {w} f e = ap (toZ w) e ∙ toZ-ofZ f
+
 -- A call's result, where what the call took is known to be something else, as it is where that was read from words.
 pub back-one : (w : Width) (op : ℤ → ℤ) (r : ℤ) {x a : ℤ} → mag r < 2 ^ hbits w → r ≡ op x → x ≡ a → read w r ≡ op a
 back-one w op r h e ea = back w r h (e ∙ ap op ea)

@@ -2,9 +2,9 @@
 use crate::value;
 ghost use mathlib.Core.Path.{_≡_};
 ghost use lib.IntN.{pos};
-ghost use Rattle.rules.specs.Values.{pick, range, smaller, larger, holdsZero, sumR, differenceR, productR, quotientR};
-ghost use Rattle.rules.specs.Values.{negR, absoluteR, squareR, rootR, smallerR, largerR};
-ghost use Rattle.fixed.specs.Shapes.{rangeIn, overEnds, ValueEnds};
+ghost use Rattle.rules.specs.Values.{pick, range, smaller, larger, holdsZero, ofEnds, sumR, differenceR, productR};
+ghost use Rattle.rules.specs.Values.{quotient, quotientR, negR, absoluteR, squareR, rootR, smallerR, largerR};
+ghost use Rattle.fixed.specs.Shapes.{rangeIn, overEnds, ValueEnds, InOrder};
 
 // A range of values, by its ends.
 pub struct Span {
@@ -75,7 +75,32 @@ fn over_ends(a: i32, b: Span) -> Span
     }
 }
 
-// All four quotients of ends: the signs tell which are the least and the greatest only of ends known to be in order.
+// From all four quotients of ends, whatever their order.
+fn all_four(a: Span, b: Span) -> Span
+    ensures { λ r. ⌜ rangeIn r ≡ ofEnds quotient (rangeIn a) (rangeIn b) ⌝ }
+{
+    let l = over_ends(a.low, b);
+    let h = over_ends(a.high, b);
+    Span {
+        low: value::minimum(l.low, h.low),
+        high: value::maximum(l.high, h.high),
+    }
+}
+
+// The least and the greatest of the four alone: of ends in order the signs tell which they are.
+fn two_of_four(a: Span, b: Span) -> Span
+    requires { ⌜ InOrder a b ⌝ }
+    ensures { λ r. ⌜ rangeIn r ≡ ofEnds quotient (rangeIn a) (rangeIn b) ⌝ }
+{
+    let under = if a.low < 0 { b.low } else { b.high };
+    let over = if a.high < 0 { b.high } else { b.low };
+    Span {
+        low: value::divide(a.low, under),
+        high: value::divide(a.high, over),
+    }
+}
+
+// The order of the ends is tested, since a run does not know it of its slots.
 pub fn divide_spans(a: Span, b: Span) -> Span
     ensures { λ r. ⌜ rangeIn r ≡ quotientR (rangeIn a) (rangeIn b) ⌝ }
 {
@@ -85,12 +110,14 @@ pub fn divide_spans(a: Span, b: Span) -> Span
             high: 2147483647,
         };
     }
-    let l = over_ends(a.low, b);
-    let h = over_ends(a.high, b);
-    Span {
-        low: value::minimum(l.low, h.low),
-        high: value::maximum(l.high, h.high),
+    if 0 < b.low {
+        if a.low <= a.high {
+            if b.low <= b.high {
+                return two_of_four(a, b);
+            }
+        }
     }
+    all_four(a, b)
 }
 
 pub fn negate_span(a: Span) -> Span

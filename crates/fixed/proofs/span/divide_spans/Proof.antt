@@ -1,31 +1,13 @@
--- `span::divide_spans`: all values where the divisor holds 0, else from the four quotients of ends.
+-- `span::divide_spans`: all values where the divisor holds 0, else the range of the four quotients of ends.
 use mathlib.Core.Path.{_≡_, sym, ap, _∙_}
-use mathlib.Core.Bool.{Bool}
+use mathlib.Core.Bool.{Bool, false}
 use lib.IntN.{pos, negℤ}
 use borrow.Author.Needs.{needs}
-use mir.Syntax.{w32}
-use mir.Facts.{toZ-ofZ}
-use Rattle.rules.specs.Values.{pick, top, Range, range, smaller, larger, quotient, ofEnds, holdsZero, quotientR}
-use Rattle.fixed.specs.Shapes.{rangeIn, overEnds}
-use Rattle.fixed.proofs.Words.{both, back-two}
-use Rattle.fixed.proofs.Spans.{fit}
+use Rattle.rules.specs.Values.{pick, top, Range, range, quotient, ofEnds, holdsZero, quotientR}
+use Rattle.fixed.specs.Shapes.{rangeIn}
+use Rattle.fixed.proofs.Spans.{fit, in-order}
 use Rattle.fixed.proofs.span.divide_spans.Statement.{statement}
 use Rattle.fixed.proofs.span.divide_spans.Tie as tie
-
-holds-zero-requires : tie.Need-holds-zero-requires
-holds-zero-requires c κs = search needs
-
-over-ends-requires : tie.Need-over-ends-requires
-over-ends-requires c κs = search needs
-
-over-ends-requires-2 : tie.Need-over-ends-requires-2
-over-ends-requires-2 c κs = search needs
-
-minimum-requires : tie.Need-minimum-requires
-minimum-requires c κs = search needs
-
-maximum-requires : tie.Need-maximum-requires
-maximum-requires c κs = search needs
 
 -- The range, by the answer whether the divisor holds 0.
 by-zero : (r q : Range) (t u : Bool) → t ≡ holdsZero q → t ≡ u
@@ -33,64 +15,57 @@ by-zero : (r q : Range) (t u : Bool) → t ≡ holdsZero q → t ≡ u
 unfolding quotientR
 by-zero r q t u e h = ap (λ s. pick s (range (negℤ (pos top)) (pos top)) (ofEnds quotient r q)) (sym h ∙ e)
 
--- The range that two make.
-abbrev joined : Range → Range → Range
-joined r q = range (smaller (r .low) (q .low)) (larger (r .high) (q .high))
-
 -- The places that facts are taken at, each from the next one behind it.
-abbrev at-start : tie.After-holds-zero → tie.Start
-at-start c = c .before
+abbrev at-start : tie.Else1 → tie.Start
+at-start c = c .before .before
 
-abbrev at-else : tie.After-over-ends → tie.Else1
+abbrev at-else : tie.After-struct-told → tie.Else1
 at-else c = c .before .before
 
-abbrev at-over-ends : tie.After-over-ends2 → tie.After-over-ends
-at-over-ends c = c .before .before
+abbrev at-struct-told : tie.After-struct-told2 → tie.After-struct-told
+at-struct-told c = c .before .before .before
 
-abbrev at-over-ends2 : tie.After-minimum → tie.After-over-ends2
-at-over-ends2 c = c .before .before .before
+abbrev at-struct-told2 : tie.Then4 → tie.After-struct-told2
+at-struct-told2 c = c .before .before .before .before
 
-abbrev at-minimum : tie.After-maximum → tie.After-minimum
-at-minimum c = c .before .before .before
+-- Where the divisor does not hold 0, the range is that of the four quotients.
+apart : (c : tie.Else1)
+    → (let s = at-start c .args in
+    ofEnds quotient (rangeIn (s .a)) (rangeIn (s .b)) ≡ quotientR (rangeIn (s .a)) (rangeIn (s .b)))
+apart c =
+    let z = c .before in
+    let s = z .before .args in
+    by-zero (rangeIn (s .a)) (rangeIn (s .b)) _ false (z .holds-zero .ensures) (c .if1 .left)
+
+holds-zero-requires : tie.Need-holds-zero-requires
+holds-zero-requires c κs = search needs
 
 returns : tie.Need-returns
 returns c =
     let z = c .before in
-    let start = at-start z in
-    by-zero (rangeIn (start .args .a)) (rangeIn (start .args .b)) _ _ (z .holds-zero .ensures) (c .if1 .taken)
+    let s = z .before .args in
+    by-zero (rangeIn (s .a)) (rangeIn (s .b)) _ _ (z .holds-zero .ensures) (c .if1 .taken)
+
+two-of-four-requires : tie.Need-two-of-four-requires
+two-of-four-requires c κs =
+    let told2 = at-struct-told2 c in
+    let told = at-struct-told told2 in
+    let s = at-start (at-else told) .args in
+    in-order (fit {s = s .a} (told2 .struct-told2 .given)) (fit {s = s .b} (told .struct-told .given))
+    (told2 .before .before .if2 .taken)
+    (c .before .before .before .if3 .taken)
+    (c .if4 .taken)
 
 returns-2 : tie.Need-returns-2
-returns-2 c =
-    let least = at-minimum c in
-    let second = at-over-ends2 least in
-    let first = at-over-ends second in
-    let z = at-else first .before in
-    let start = at-start z in
-    let a = start .args .a in
-    let b = start .args .b in
-    let f = fit {s = a} (first .before .struct-told .given) in
-    let l = first .over-ends in
-    let h = second .over-ends2 in
-    let fl = fit {s = l .result} (least .before .before .struct-told3 .given) in
-    let fh = fit {s = h .result} (least .before .struct-told4 .given) in
-    let m = least .minimum in
-    let n = c .maximum in
-    both range
-    (back-two w32 smaller (m .result) (m .ok) (m .ensures) (toZ-ofZ (fl .low)) (toZ-ofZ (fh .low)))
-    (back-two w32 larger (n .result) (n .ok) (n .ensures) (toZ-ofZ (fl .high)) (toZ-ofZ (fh .high)))
-    ∙ both joined
-    (l .ensures ∙ ap (λ x. overEnds x (rangeIn b)) (toZ-ofZ (f .low)))
-    (h .ensures ∙ ap (λ x. overEnds x (rangeIn b)) (toZ-ofZ (f .high)))
-    ∙ by-zero (rangeIn a) (rangeIn b) _ _ (z .holds-zero .ensures) (at-else first .if1 .left)
+returns-2 c = c .two-of-four .ensures ∙ apart (at-else (at-struct-told (at-struct-told2 (c .before))))
+
+all-four-requires : tie.Need-all-four-requires
+all-four-requires c κs = search needs
+
+returns-3 : tie.Need-returns-3
+returns-3 c = c .all-four .ensures ∙ apart (at-else (c .before .before))
 
 pub divide-spans-spec : {M : Type 1} → statement M
 divide-spans-spec =
     tie.close
-    (tie.spec
-    holds-zero-requires
-    returns
-    over-ends-requires
-    over-ends-requires-2
-    minimum-requires
-    maximum-requires
-    returns-2)
+    (tie.spec holds-zero-requires returns two-of-four-requires returns-2 all-four-requires returns-3)
