@@ -5,14 +5,15 @@ use mathlib.Core.List.{List, []}
 use Prim.Native.Nat.{ℕ, suc, _+_, _*_, _≤_, _<_}
 use native.Mathlib.Nat.{mul-comm, mul-le-mul-right}
 use native.Mathlib.Omega.{arith}
-use lib.Dec.{leb}
-use lib.IntN.{ℤ}
+use lib.Dec.{leb, ltb}
+use lib.IntN.{ℤ, pos, negsuc}
 use lib.ListN.{length, getD, set}
-use borrow.Author.Tests.{le-leb, lt-leb, lt-ltb}
+use lib.Seq.{set-getD}
+use borrow.Author.Tests.{le-leb, lt-leb, lt-ltb, le-ltb}
 use mir.Syntax.{w32}
 use mir.Val.{SFits}
 use mir.Facts.{toZ-ofZ}
-use Rattle.rules.specs.Values.{isNeg, IsValue, Sample}
+use Rattle.rules.specs.Values.{pick, isNeg, IsValue, Sample}
 use Rattle.rules.specs.Tapes.{material}
 use Rattle.rules.specs.Drawings.{at, region, sampleAt, pastZ, raiseRow, gridFault}
 use Rattle.rules.proofs.Words.{read}
@@ -31,7 +32,7 @@ use Rattle.walk.proofs.Along.{part-one}
 use Rattle.walk.proofs.CellLaws.{small, kind}
 use Rattle.walk.proofs.Places.{ready-again}
 use Rattle.walk.specs.declared.cell.Cell.{Cell}
-use Rattle.solid_samples.specs.Samples.{ForSamples}
+use Rattle.solid_samples.specs.Samples.{ForSamples, withSample}
 use Rattle.solid_samples.proofs.CellRows.{index-most}
 
 -- What a call in a loop over samples asks again.
@@ -42,6 +43,14 @@ samples-again p e = record { sound = p .sound; ready = ready-again (p .ready) e;
 -- A lane's value, handed over as a word.
 pub value-word : {ws : List ℕ} {s : Sample} {v : ℤ} → SFits w32 v → Evaluated ws s v → Evaluated ws s (read w32 v)
 value-word {v = v} f e = rw (toZ-ofZ {w = w32} {z = v} f) e
+
+-- The height with a sample that is hidden, which stays; and the greater height, of one that is seen.
+hidden-stays : (a h : ℕ) (v : ℤ) → h ≤ a → withSample a h v ≡ a
+hidden-stays a h (pos n) l = refl
+hidden-stays a h (negsuc n) l = rw (le-ltb a h l) refl
+
+greater-new : (a h : ℕ) → a < h → pick (ltb a h) h a ≡ h
+greater-new a h l = rw (lt-ltb a h l) refl
 
 module _ (grid : Grid) (x y z : ℕ) (i : InGrid (grid .depth) grid x y z) where
   module _ (e : gridFault true (gridIn grid true) ≡ 0) where
@@ -90,17 +99,25 @@ module _ (grid : Grid) (x y z : ℕ) (i : InGrid (grid .depth) grid x y z) where
         hidden-same (gridIn grid true) (region x y z 1) b v
         (hidden-sample (gridIn grid true) x y z b (kind true grid (r .fault)) (i .x-in) (i .y-in) (i .z-in) ∙ h)
 
-    pub sample-hidden : z + 1 ≤ getD b (y * grid .width + x) 0 → Visits true 1 ws grid [] (region x y z 1) b b 0
+    sample-hidden : z + 1 ≤ getD b (y * grid .width + x) 0 → Visits true 1 ws grid [] (region x y z 1) b b 0
     sample-hidden h =
         record {
           draws = λ m a. draws-hidden (hidden-by true (le-leb _ _ h)) [] (tapeIn m ws);
           bound = omega arith;
         }
 
+    -- With the height h stored that the sample leaves. Hidden: it is the one that was there.
+    pub hidden-stored : z + 1 ≤ getD b (y * grid .width + x) 0 → (v : ℤ) (h : ℕ)
+        → h ≡ withSample (getD b (y * grid .width + x) 0) (z + 1) v
+        → Visits true 1 ws grid [] (region x y z 1) b (set b (y * grid .width + x) h) 0
+    hidden-stored l v h e =
+        let same = ap (set b (y * grid .width + x)) (e ∙ hidden-stays _ _ v l) ∙ set-getD b (y * grid .width + x) 0 in
+        rw same (sample-hidden l)
+
     -- Seen, with the value v.
     module _ (low : getD b (y * grid .width + x) 0 < z + 1) (v : ℤ)
         (run : Evaluated ws (sampleAt (gridIn grid true) x y z) v) where
-      pub sample-skips : isNeg v ≡ false → Visits true 1 ws grid [] (region x y z 1) b b (length ws)
+      sample-skips : isNeg v ≡ false → Visits true 1 ws grid [] (region x y z 1) b b (length ws)
       unfolding material
       sample-skips n =
           record {
@@ -116,7 +133,7 @@ module _ (grid : Grid) (x y z : ℕ) (i : InGrid (grid .depth) grid x y z) where
       unfolding raiseRow
       raised b′ h = rw (lt-ltb _ _ low) h
 
-      pub sample-fills : isNeg v ≡ true → (b′ : List ℕ) → b′ ≡ set b (y * grid .width + x) (z + 1)
+      sample-fills : isNeg v ≡ true → (b′ : List ℕ) → b′ ≡ set b (y * grid .width + x) (z + 1)
           → Visits true 1 ws grid [] (region x y z 1) b b′ (length ws)
       unfolding material
       sample-fills n b′ h =
@@ -129,3 +146,17 @@ module _ (grid : Grid) (x y z : ℕ) (i : InGrid (grid .depth) grid x y z) where
                 (rw (past-z (r .fault)) (raises-same (y * grid .width + x) 1 (z + 1) b (raised b′ h)))));
             bound = omega arith;
           }
+
+      stored-by : (t : Bool) → isNeg v ≡ t → (h : ℕ)
+          → h ≡ pick t (pick (ltb (getD b (y * grid .width + x) 0) (z + 1)) (z + 1) (getD b (y * grid .width + x) 0))
+          (getD b (y * grid .width + x) 0)
+          → Visits true 1 ws grid [] (region x y z 1) b (set b (y * grid .width + x) h) (length ws)
+      stored-by true n h e =
+          sample-fills n _ (ap (set b (y * grid .width + x)) (e ∙ greater-new _ _ low))
+      stored-by false n h e =
+          let same = ap (set b (y * grid .width + x)) e ∙ set-getD b (y * grid .width + x) 0 in
+          rw same (sample-skips n)
+
+      pub seen-stored : (h : ℕ) → h ≡ withSample (getD b (y * grid .width + x) 0) (z + 1) v
+          → Visits true 1 ws grid [] (region x y z 1) b (set b (y * grid .width + x) h) (length ws)
+      seen-stored = stored-by (isNeg v) refl

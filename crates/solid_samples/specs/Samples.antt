@@ -3,8 +3,10 @@ use mathlib.Core.Path.{_≡_}
 use mathlib.Core.Bool.{true}
 use mathlib.Core.List.{List, []}
 use Prim.Native.Nat.{ℕ, _+_, _*_, _≤_, _<_}
+use lib.Dec.{ltb}
 use lib.IntN.{ℤ}
 use lib.ListN.{getD}
+use Rattle.rules.specs.Values.{pick, isNeg}
 use Rattle.rules.specs.Drawings.{sampleAt}
 use Rattle.code.specs.Runs.{Evaluated}
 use Rattle.picture.specs.Shapes.{gridIn}
@@ -31,6 +33,10 @@ pub record ForList (grid : Grid) (c : Cell) (rs ls : List ℤ) (b : List ℕ) : 
   pub side : c .side ≡ 4
   pub rows : LaneSamples (grid .yorigin) (grid .ystep) (c .y) (c .yend) rs
   pub layers : LaneSamples (grid .zorigin) (grid .zstep) (c .z) (c .zend) ls
+
+-- A pixel's height with one more sample: raised to that of the sample's layer where its value is below 0, never lowered.
+abbrev pub withSample : ℕ → ℕ → ℤ → ℕ
+withSample now height v = pick (isNeg v) (pick (ltb now height) height now) now
 
 -- One sample, with the tape's value there.
 pub record ForLane (ws : List ℕ) (grid : Grid) (x y z : ℕ) (v : ℤ) (b : List ℕ) : Type 0 where

@@ -5,15 +5,17 @@ use crate::chunks::chunk_z;
 use picture::grid::Grid;
 use sweep::BLOCK;
 use walk::cell::Cell;
+ghost use mathlib.Core.Path.{_≡_};
 ghost use mathlib.Core.Bool.{true};
 ghost use mathlib.Core.List.{[]};
 ghost use Rattle.rules.specs.Drawings.{region, alongZ};
 ghost use Rattle.walk.specs.Walks.{Visits, Folds};
-ghost use Rattle.solid_samples.specs.Samples.{ForLane, ForRow, ForChunk, ForPlace, ForPlaces};
+ghost use Rattle.solid_samples.specs.Samples.{ForLane, ForRow, ForChunk, ForPlace, ForPlaces, withSample};
 ghost use Rattle.solid_samples.specs.Chunks.{rowIn, chunkIn};
 
 // One sample with the tape's value there. Its height is read now: a sample of a layer above may have raised it since the
-// lanes ran. Then the sample is hidden, and not counted.
+// lanes ran. Then the sample is hidden, and not counted. The height is stored in every case, also one that stays, so that
+// no branch hangs on the value.
 fn settle_lane(
     code: &[u64],
     grid: Grid,
@@ -30,15 +32,16 @@ fn settle_lane(
     let at = (y * grid.width + x) as usize;
     let height = (z + 1) as u16;
     let now = picture[at];
-    if height <= now {
-        return 0;
-    }
-    let count = code.len() as u64;
-    if value < 0 {
-        picture[at] = height;
-        return count;
-    }
-    count
+    picture[at] = raised(now, height, value);
+    if now < height { code.len() as u64 } else { 0 }
+}
+
+// The height with the sample: raised to `height` where its value is below 0.
+fn raised(now: u16, height: u16, value: i32) -> u16
+    ensures { λ r. ⌜ r ≡ withSample now height value ⌝ }
+{
+    let top = if now < height { height } else { now };
+    if value < 0 { top } else { now }
 }
 
 // Row y of layer z, whose first sample is in the lane `first`. Lanes past the region's end are not looked at.
