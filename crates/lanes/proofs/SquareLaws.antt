@@ -1,11 +1,11 @@
 -- Squares by sizes.
-use mathlib.Core.Path.{_≡_, refl}
-use mathlib.Core.Bool.{true, false}
+use mathlib.Core.Path.{_≡_, refl, sym}
+use mathlib.Core.Bool.{true, false, true≢false}
 use lib.Dec.{T}
 use lib.IntN.{ℤ, pos, negsuc, negℤ, natAbs}
 use lib.Signed.{ltZ, nonNeg}
 use Prim.Native.Nat.{ℕ, _*_, _/_, _≤_, _<_}
-use borrow.Author.Tests.{ltb-true}
+use borrow.Author.Tests.{ltb-true, ltb-false}
 use mir.Val.{Fits, SFits}
 use mir.Syntax.{w32}
 use native.Mathlib.Nat.{mul-le-mul}
@@ -26,6 +26,15 @@ pub by-size : (z : ℤ) → pos (clippedSquare (natAbs z)) ≡ square z
 unfolding square product
 by-size (pos a) = refl
 by-size (negsuc a) = refl
+
+-- Tests of a number with a sign, as tests of its size.
+pub size-past : (m : ℕ) (z : ℤ) → ltZ (pos m) z ≡ true → m < natAbs z
+size-past m (pos a) h = ltb-true m a h
+size-past m (negsuc a) h = absurd (true≢false (sym h))
+
+pub size-up-to : (m : ℕ) (z : ℤ) → ltZ z (pos 0) ≡ false → ltZ (pos m) z ≡ false → natAbs z ≤ m
+size-up-to m (pos a) g h = ltb-false m a h
+size-up-to m (negsuc a) g h = absurd (true≢false g)
 
 -- A number without a sign.
 pub record Unsigned (z : ℤ) : Type 0 where

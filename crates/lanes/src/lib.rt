@@ -6,10 +6,11 @@ use crate::squares::clipped;
 use crate::squares::low_size;
 use crate::squares::low_squares;
 use crate::squares::sizes;
+use crate::squares::square_of;
 use fixed::value;
 ghost use lib.IntN.{negℤ};
 ghost use Rattle.rules.specs.Values.{sum, difference, product, smaller, larger, quotient, absolute, square, rootOf};
-ghost use Rattle.lanes.specs.Lanes.{All, One, OneOfValues, Two};
+ghost use Rattle.lanes.specs.Lanes.{All, NoneNegative, One, OneOfValues, Two};
 
 // The same value in every lane.
 pub fn splat(v: i32) -> [i32; 8]
@@ -50,6 +51,20 @@ pub fn square(a: [i32; 8]) -> [i32; 8]
 {
     let n = sizes(a);
     clipped(n, low_squares(n))
+}
+
+// The same of sizes, which have no sign to take away.
+pub fn square_sizes(n: [i32; 8]) -> [i32; 8]
+    requires { ⌜ NoneNegative n ⌝ }
+    ensures { λ r. ⌜ One square n r ⌝ }
+{
+    let mut r = [0i32; 8];
+    let mut k = 0;
+    while k < 8 {
+        r[k] = square_of(n[k]);
+        k += 1;
+    }
+    r
 }
 
 pub fn root(a: [i32; 8]) -> [i32; 8]

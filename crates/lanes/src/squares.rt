@@ -1,8 +1,10 @@
 // Squares of eight values: the sizes, whose products the machine makes several at once, and then the greatest value
 // where a size is past the last whose square is a value. Only a test of 32 bits is made side by side.
+ghost use mathlib.Core.Bool.{false};
 ghost use mathlib.Core.Path.{_≡_};
 ghost use Prim.Native.Nat.{_%_};
 ghost use lib.IntN.{pos, natAbs};
+ghost use Rattle.rules.specs.Values.{below, square};
 ghost use Rattle.lanes.specs.Squares.{Sizes, lowSquare, clippedSquare, LowSquares, Clipped};
 
 pub fn sizes(a: [i32; 8]) -> [u32; 8]
@@ -71,4 +73,13 @@ fn clip(n: u32, p: i32) -> i32
     ensures { λ r. ⌜ r ≡ pos (clippedSquare n) ⌝ }
 {
     if 11863283 < n { 2147483647 } else { p }
+}
+
+// Of a size as a number with a sign: such numbers the machine compares several at once.
+pub fn square_of(n: i32) -> i32
+    requires { ⌜ below n (pos 0) ≡ false ⌝ }
+    ensures { λ r. ⌜ r ≡ square n ⌝ }
+{
+    let low = low_square(n as u32);
+    if 11863283 < n { 2147483647 } else { low }
 }

@@ -1,5 +1,6 @@
 -- `squares::clip`: by the last size whose square is a value.
 use mathlib.Core.Path.{ap, _∙_}
+use native.Mathlib.Omega.{arith}
 use lib.IntN.{pos}
 use mir.Facts.{toZ-ofZ}
 use Rattle.lanes.proofs.SquareLaws.{past-last, up-to-last}
@@ -7,7 +8,7 @@ use Rattle.lanes.proofs.squares.clip.Statement.{statement}
 use Rattle.lanes.proofs.squares.clip.Tie as tie
 
 returns : tie.Need-returns
-returns c = ap pos (past-last (c .before .args .n) (c .if1 .taken))
+returns c = ap pos (past-last (c .before .args .n) (omega (arith, c .if1 .taken)))
 
 returns-2 : tie.Need-returns-2
 returns-2 c =
