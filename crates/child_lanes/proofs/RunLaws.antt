@@ -12,8 +12,8 @@ use lib.ListN.{length, getD, replicate, getD-replicate, List·getD-eq-default}
 use Rattle.rules.specs.Values.{Range, Box}
 use Rattle.rules.specs.Drawings.{region, boxOf, gridFault}
 use Rattle.lanes.specs.Lanes.{laneCount, lane}
-use Rattle.code.specs.Runs.{BoxOk, Bounded}
-use Rattle.range_sweep.specs.Boxes.{endRows, boxAt, column, slotRange, Boxed, LentEnds}
+use Rattle.code.specs.Runs.{BoxOk, column, Bounded}
+use Rattle.range_sweep.specs.Boxes.{endRows, boxAt, slotRange, Boxed, LentEnds}
 use Rattle.picture.specs.Shapes.{gridIn}
 use Rattle.picture.specs.declared.grid.Grid.{Grid}
 use Rattle.walk.specs.Cells.{layersIn, regionIn, ForBox, CellOk, CellBox}

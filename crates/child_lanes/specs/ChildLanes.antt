@@ -11,8 +11,8 @@ use Rattle.lanes.specs.Lanes.{laneCount}
 use Rattle.rules.specs.Tapes.{slotLimit}
 use Rattle.rules.specs.Accepted.{Accepted}
 use Rattle.code.specs.Words.{tapeIn}
-use Rattle.code.specs.Runs.{BoxOk, Bounded}
-use Rattle.range_sweep.specs.Boxes.{boxAt, slotRange, column, LentEnds}
+use Rattle.code.specs.Runs.{BoxOk, column, Bounded}
+use Rattle.range_sweep.specs.Boxes.{boxAt, slotRange, LentEnds}
 use Rattle.picture.specs.Shapes.{gridIn}
 use Rattle.picture.specs.declared.grid.Grid.{Grid}
 use Rattle.walk.specs.Cells.{layersIn}
