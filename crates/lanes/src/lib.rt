@@ -8,9 +8,11 @@ use crate::squares::low_squares;
 use crate::squares::sizes;
 use crate::squares::square_of;
 use fixed::value;
+ghost use Prim.Native.Nat.{_<_};
 ghost use lib.IntN.{negℤ};
+ghost use lib.ListN.{length};
 ghost use Rattle.rules.specs.Values.{sum, difference, product, smaller, larger, quotient, absolute, square, rootOf};
-ghost use Rattle.lanes.specs.Lanes.{All, NoneNegative, One, OneOfValues, Two};
+ghost use Rattle.lanes.specs.Lanes.{All, NoneNegative, One, OneOfValues, Two, RowOf};
 
 // The same value in every lane.
 pub fn splat(v: i32) -> [i32; 8]
@@ -67,10 +69,15 @@ pub fn square_sizes(n: [i32; 8]) -> [i32; 8]
     r
 }
 
-pub fn root(a: [i32; 8]) -> [i32; 8]
-    ensures { λ r. ⌜ One rootOf a r ⌝ }
+// Row `to` becomes the roots of row `from`, which may be the same one. It has several callers, so that it is compiled
+// apart, and the rows are read and written where they lie: a row by value would go through memory once more.
+pub fn root_row(rows: &mut [[i32; 8]], from: usize, to: usize)
+    requires { ⌜ from < length (now rows) ⌝ }
+    requires { ⌜ to < length (now rows) ⌝ }
+    ensures { λ _. ⌜ RowOf rootOf from to (now (rows .entry)) (now (rows .exit)) ⌝ }
 {
-    roots::roots8(a)
+    let r = roots::roots8(rows[from]);
+    rows[to] = r;
 }
 
 pub fn add(a: [i32; 8], b: [i32; 8]) -> [i32; 8]
