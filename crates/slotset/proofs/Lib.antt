@@ -1,2 +1,3 @@
 -- What each function does to the set.
 pub mod SlotBits
+pub mod SlotWords
