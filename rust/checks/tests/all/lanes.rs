@@ -20,8 +20,9 @@ fn count(code: &[u8], operation: u8) -> usize {
 
 /// Sums, differences and comparisons of four lanes, products and quotients of two.
 const OPERATIONS: [(&str, u8); 5] =
-    [("paddd", 0xFE), ("psubd", 0xFA), ("pcmpgtd", COMPARED), ("pmuludq", 0xF4), ("divpd", 0x5E)];
+    [("paddd", 0xFE), ("psubd", 0xFA), ("pcmpgtd", COMPARED), ("pmuludq", 0xF4), ("divpd", DIVIDED)];
 const COMPARED: u8 = 0x66;
+const DIVIDED: u8 = 0x5E;
 
 /// A little-endian number of so many bytes.
 fn number(bytes: &[u8], at: usize, length: usize) -> usize {
@@ -60,12 +61,24 @@ fn lanes_run_several_at_once() {
     }
 }
 
+/// How often an operation stands in the functions of a crate that the archive has by themselves.
+fn count_in(crate_name: &str, operation: u8) -> usize {
+    let archive = archive();
+    let objects = files(&archive).into_iter().filter(|file| file.starts_with(b"\x7FELF"));
+    objects.map(|object| count(&code_of(object, crate_name), operation)).sum()
+}
+
 /// A run over eight boxes compares the ends of several at once, for each minimum and maximum and for their choices: one by
 /// one there would be none of these comparisons.
 #[test]
 fn ranges_run_several_at_once() {
-    let archive = archive();
-    let objects = files(&archive).into_iter().filter(|file| file.starts_with(b"\x7FELF"));
-    let found: usize = objects.map(|object| count(&code_of(object, "child_lanes"), COMPARED)).sum();
+    let found = count_in("child_lanes", COMPARED);
     assert!(found >= 24, "{found} comparisons of four lanes in the run over eight boxes");
+}
+
+/// Eight roots take one division of two numbers for each two of them, and are compiled apart, with the lanes.
+#[test]
+fn roots_run_two_at_once() {
+    let found = count_in("lanes", DIVIDED);
+    assert_eq!(found, 4, "divisions of two lanes in the root of a row");
 }
