@@ -4,6 +4,7 @@
 
 mod arith;
 mod flat;
+mod kept;
 mod lanes;
 mod run;
 mod shorten;
@@ -13,9 +14,9 @@ mod spans;
 mod word;
 
 pub use flat::{short_lengths, tile_flat};
+pub use kept::words;
 pub use slopes::tile_slopes;
 pub use solid::tile_solid;
-pub use word::words;
 
 /// Slots of any tape.
 const SLOTS: usize = layers::MAX_SLOTS as usize;
@@ -26,11 +27,12 @@ struct Level {
     choices: Vec<[u8; 8]>,
     /// The short tape of the region that is visited, in a buffer as long as the whole tape; its words end at its end.
     short: Vec<u64>,
+    kept: kept::Kept,
 }
 
 impl Level {
-    fn new(clauses: usize) -> Level {
-        Level { choices: vec![[0; 8]; clauses], short: vec![0; clauses] }
+    fn new(code: &[u64]) -> Level {
+        Level { choices: vec![[0; 8]; code.len()], short: vec![0; code.len()], kept: kept::Kept::new(code) }
     }
 }
 

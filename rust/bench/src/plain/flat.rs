@@ -1,10 +1,10 @@
 //! The flat drawing by tiles.
 
 use super::arith::Span;
+use super::kept::words;
 use super::lanes::{Block, CHUNKS, Samples, run_chunks};
 use super::shorten::shorten;
 use super::spans::{Spans, run_spans};
-use super::word::words;
 use super::{Level, SLOTS, axis, sample};
 use layers::Grid;
 
@@ -29,7 +29,7 @@ fn walked(tape: &[u8], grid: Grid, picture: &mut [u8], cut: impl FnMut(u32, usiz
     let (ranges, values) = ([Spans::default(); SLOTS], [[[0; 8]; CHUNKS]; SLOTS]);
     let mut walk = Walk { grid, row, picture, cut, ranges, values, count: 0 };
     let all = Region { x: 0, xend: grid.width, y: 0, yend: grid.height };
-    walk.visit_children(&code, all, 64, &mut [0; 2].map(|_| Level::new(code.len())));
+    walk.visit_children(&code, all, 64, &mut [0; 2].map(|_| Level::new(&code)));
     walk.count
 }
 
@@ -77,7 +77,7 @@ impl<F: FnMut(u32, usize)> Walk<'_, F> {
             self.fill(region);
         } else if range.low < 0 {
             let (level, below) = levels.split_first_mut().expect("a level for every side");
-            let start = shorten(code, &level.choices, |choice| choice[lane], &mut level.short);
+            let start = shorten(code, &level.choices, |choice| choice[lane], &mut level.kept, &mut level.short);
             let short = &level.short[start..];
             (self.cut)(side, short.len());
             if below.is_empty() {

@@ -1,11 +1,11 @@
 //! The solid drawing by tiles.
 
 use super::arith::Span;
+use super::kept::words;
 use super::lanes::{Block, CHUNKS, Lanes, Samples, run_chunks};
 use super::run::{Slots, run_ranges};
 use super::shorten::shorten;
 use super::spans::{Spans, run_spans};
-use super::word::words;
 use super::{Level, SLOTS, axis, sample};
 use layers::Grid;
 
@@ -16,7 +16,7 @@ pub fn tile_solid(tape: &[u8], grid: Grid, picture: &mut [u16]) -> u64 {
     let (ranges, values) = ([Spans::default(); SLOTS], [[[0; 8]; CHUNKS]; SLOTS]);
     let mut walk = Walk { grid, picture, range: Slots::new(), ranges, values, count: 0 };
     let all = Region { x: 0, xend: grid.width, y: 0, yend: grid.height, z: 0, zend: grid.depth };
-    walk.visit_children(&code, all, 64, &mut [0; 3].map(|_| Level::new(code.len())));
+    walk.visit_children(&code, all, 64, &mut [0; 3].map(|_| Level::new(&code)));
     walk.count
 }
 
@@ -99,7 +99,7 @@ impl Walk<'_> {
             self.fill(region);
         } else if range.low < 0 {
             let (level, below) = levels.split_first_mut().expect("a level for every side");
-            let start = shorten(code, &level.choices, |choice| choice[lane], &mut level.short);
+            let start = shorten(code, &level.choices, |choice| choice[lane], &mut level.kept, &mut level.short);
             let short = &level.short[start..];
             if below.is_empty() {
                 self.visit_samples(short, region);
