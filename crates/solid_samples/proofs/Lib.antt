@@ -5,3 +5,4 @@ pub mod ChunkLaws
 pub mod ListLaws
 pub mod RunLaws
 pub mod SampleLaws
+pub mod WholeLaws

@@ -36,9 +36,9 @@ pub fn columns(xs: [i32; 8]) -> [i32; 8]
 }
 
 // Two rows, each for four pixels.
-fn pair(rows: [i32; 8], i: usize) -> [i32; 8]
+fn pair(rows: &[i32; 8], i: usize) -> [i32; 8]
     requires { ⌜ i + 1 < 8 ⌝ }
-    ensures { λ r. ⌜ r ≡ pairOf rows i ⌝ }
+    ensures { λ r. ⌜ r ≡ pairOf (now (rows .entry)) i ⌝ }
 {
     let a = rows[i];
     let b = rows[i + 1];
@@ -64,8 +64,8 @@ fn chunk_hidden(grid: Grid, parent: Cell, y: u32, z: u32, picture: &[u16]) -> bo
 fn list_chunk(
     grid: Grid,
     parent: Cell,
-    rows: [i32; 8],
-    layers: [i32; 8],
+    rows: &[i32; 8],
+    layers: &[i32; 8],
     m: u32,
     n: usize,
     picture: &[u16],
@@ -73,7 +73,7 @@ fn list_chunk(
     zs: &mut [[i32; 8]; 8],
     places: &mut [usize; 8],
 ) -> usize
-    requires { ⌜ ForList grid parent rows layers (now picture) ⌝ }
+    requires { ⌜ ForList grid parent (now rows) (now layers) (now picture) ⌝ }
     requires { ⌜ (m < chunkCount parent) × Listed grid parent (now picture) (now ys) (now zs) (now places) m n ⌝ }
     ensures { λ r. ⌜ Listed grid parent (now (picture .entry)) (now (ys .exit)) (now (zs .exit)) (now (places .exit))
         (m + 1) r ⌝ }
@@ -95,14 +95,14 @@ fn list_chunk(
 pub fn list_chunks(
     grid: Grid,
     parent: Cell,
-    rows: [i32; 8],
-    layers: [i32; 8],
+    rows: &[i32; 8],
+    layers: &[i32; 8],
     picture: &[u16],
     ys: &mut [[i32; 8]; 8],
     zs: &mut [[i32; 8]; 8],
     places: &mut [usize; 8],
 ) -> usize
-    requires { ⌜ ForList grid parent rows layers (now picture) ⌝ }
+    requires { ⌜ ForList grid parent (now rows) (now layers) (now picture) ⌝ }
     requires { ⌜ (length (now ys) ≡ 8) × (length (now zs) ≡ 8) × (length (now places) ≡ 8) ⌝ }
     ensures { λ r. ⌜ Listed grid parent (now (picture .entry)) (now (ys .exit)) (now (zs .exit)) (now (places .exit))
         (chunkCount parent) r ⌝ }

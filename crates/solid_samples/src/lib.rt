@@ -3,3 +3,4 @@ pub mod cell;
 pub mod chunks;
 pub mod samples;
 pub mod settle;
+pub mod whole;

@@ -41,8 +41,8 @@ pub fn sample_layers(
     let n = list_chunks(
         grid,
         parent,
-        rows,
-        layers,
+        &rows,
+        &layers,
         picture,
         &mut ys,
         &mut zs,

@@ -2,15 +2,16 @@
 // Lane k has column k % 4 of row k / 4, so that the lanes' order is the walk's.
 use crate::chunks::chunk_y;
 use crate::chunks::chunk_z;
+use crate::whole::raised;
+use crate::whole::settle_whole;
 use picture::grid::Grid;
 use sweep::BLOCK;
 use walk::cell::Cell;
-ghost use mathlib.Core.Path.{_≡_};
 ghost use mathlib.Core.Bool.{true};
 ghost use mathlib.Core.List.{[]};
 ghost use Rattle.rules.specs.Drawings.{region, alongZ};
 ghost use Rattle.walk.specs.Walks.{Visits, Folds};
-ghost use Rattle.solid_samples.specs.Samples.{ForLane, ForRow, ForChunk, ForPlace, ForPlaces, withSample};
+ghost use Rattle.solid_samples.specs.Samples.{ForLane, ForRow, ForChunk, ForPlace, ForPlaces};
 ghost use Rattle.solid_samples.specs.Chunks.{rowIn, chunkIn};
 
 // One sample with the tape's value there. Its height is read now: a sample of a layer above may have raised it since the
@@ -36,14 +37,6 @@ fn settle_lane(
     if now < height { code.len() as u64 } else { 0 }
 }
 
-// The height with the sample: raised to `height` where its value is below 0.
-fn raised(now: u16, height: u16, value: i32) -> u16
-    ensures { λ r. ⌜ r ≡ withSample now height value ⌝ }
-{
-    let top = if now < height { height } else { now };
-    if value < 0 { top } else { now }
-}
-
 // Row y of layer z, whose first sample is in the lane `first`. Lanes past the region's end are not looked at.
 fn settle_row(
     code: &[u64],
@@ -51,11 +44,11 @@ fn settle_row(
     parent: Cell,
     y: u32,
     z: u32,
-    values: [i32; 8],
+    values: &[i32; 8],
     first: u32,
     picture: &mut [u16],
 ) -> u64
-    requires { ⌜ ForRow (now code) grid parent y z values first (now picture) ⌝ }
+    requires { ⌜ ForRow (now code) grid parent y z (now values) first (now picture) ⌝ }
     ensures { λ r. ⌜ Folds true 4 (now (code .entry)) grid [] (rowIn parent y z)
         (now (picture .entry)) (now (picture .exit)) r ⌝ }
 {
@@ -72,19 +65,23 @@ fn settle_row(
     count
 }
 
+// A chunk that no edge of the grid cuts is settled in lanes.
 fn settle_chunk(
     code: &[u64],
     grid: Grid,
     parent: Cell,
     y: u32,
     z: u32,
-    values: [i32; 8],
+    values: &[i32; 8],
     picture: &mut [u16],
 ) -> u64
-    requires { ⌜ ForChunk (now code) grid parent y z values (now picture) ⌝ }
+    requires { ⌜ ForChunk (now code) grid parent y z (now values) (now picture) ⌝ }
     ensures { λ r. ⌜ Folds true 8 (now (code .entry)) grid [] (chunkIn parent y z)
         (now (picture .entry)) (now (picture .exit)) r ⌝ }
 {
+    if parent.xend - parent.x == 4 && y + 2 <= parent.yend {
+        return settle_whole(code, grid, parent, y, z, values, picture);
+    }
     let lower = settle_row(code, grid, parent, y, z, values, 0, picture);
     let upper = settle_row(code, grid, parent, y + 1, z, values, 4, picture);
     lower + upper
@@ -109,8 +106,15 @@ fn settle_place(
     if 8 <= place {
         return 0;
     }
-    let values = slots[8 * result + place];
-    settle_chunk(code, grid, parent, y, z, values, picture)
+    settle_chunk(
+        code,
+        grid,
+        parent,
+        y,
+        z,
+        &slots[8 * result + place],
+        picture,
+    )
 }
 
 // All chunks in the walk's order.

@@ -65,8 +65,8 @@ cast-splat c = search needs
 mul-splat : tie.Need-mul-splat
 mul-splat c = search needs
 
-array-copy-out-splat : tie.Need-array-copy-out-splat
-array-copy-out-splat c = search needs
+element-copy-out-splat : tie.Need-element-copy-out-splat
+element-copy-out-splat c = search needs
 
 splat-requires : tie.Need-splat-requires
 splat-requires c κs = search needs
@@ -121,7 +121,7 @@ list-chunk-spec =
     sub-splat
     cast-splat
     mul-splat
-    array-copy-out-splat
+    element-copy-out-splat
     splat-requires
     mul-lower
     element-set-from-lower

@@ -8,8 +8,8 @@ use Rattle.solid_samples.proofs.chunks.pair.Tie as tie
 mul-a : tie.Need-mul-a
 mul-a c = search needs
 
-array-copy-out-a : tie.Need-array-copy-out-a
-array-copy-out-a c = search needs
+element-copy-out-a : tie.Need-element-copy-out-a
+element-copy-out-a c = search needs
 
 add-b : tie.Need-add-b
 add-b c = search needs
@@ -17,8 +17,8 @@ add-b c = search needs
 mul-b : tie.Need-mul-b
 mul-b c = search needs
 
-array-copy-out-b : tie.Need-array-copy-out-b
-array-copy-out-b c = search needs
+element-copy-out-b : tie.Need-element-copy-out-b
+element-copy-out-b c = search needs
 
 returns : tie.Need-returns
 returns c =
@@ -27,4 +27,4 @@ returns c =
     eight a a a a b b b b
 
 pub pair-spec : {M : Type 1} → statement M
-pair-spec = tie.close (tie.spec mul-a array-copy-out-a add-b mul-b array-copy-out-b returns)
+pair-spec = tie.close (tie.spec mul-a element-copy-out-a add-b mul-b element-copy-out-b returns)

@@ -27,7 +27,7 @@ abbrev with-y : tie.After-lane-samples3 → tie.After-lane-samples2
 with-y c = c .before .before .before
 
 abbrev with-z : tie.After-places → tie.After-lane-samples3
-with-z c = c .before .before .before .before
+with-z c = c .before .before .before .before .before .before
 
 abbrev listed : tie.After-run-chunks-arg → tie.After-list-chunks
 listed c = c .before .before .before

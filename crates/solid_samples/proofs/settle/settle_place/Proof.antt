@@ -13,17 +13,17 @@ returns c =
     let p = start (c .before) .pre in
     hidden-chunk (p .all .ready) (p .all .cell) (p .z-in) (p .placed .hidden (c .if1 .taken))
 
-mul-values : tie.Need-mul-values
-mul-values c = search needs
+mul-settle-chunk : tie.Need-mul-settle-chunk
+mul-settle-chunk c = search needs
 
-add-values : tie.Need-add-values
-add-values c = search needs
+add-settle-chunk : tie.Need-add-settle-chunk
+add-settle-chunk c = search needs
 
-mul-values-2 : tie.Need-mul-values-2
-mul-values-2 c = search needs
+mul-settle-chunk-2 : tie.Need-mul-settle-chunk-2
+mul-settle-chunk-2 c = search needs
 
-element-copy-out-values : tie.Need-element-copy-out-values
-element-copy-out-values c = search needs
+index-1-settle-chunk : tie.Need-index-1-settle-chunk
+index-1-settle-chunk c = search needs
 
 settle-chunk-requires : tie.Need-settle-chunk-requires
 settle-chunk-requires c κs =
@@ -42,10 +42,10 @@ settle-place-spec =
     tie.close
     (tie.spec
     returns
-    mul-values
-    add-values
-    mul-values-2
-    element-copy-out-values
+    mul-settle-chunk
+    add-settle-chunk
+    mul-settle-chunk-2
+    index-1-settle-chunk
     settle-chunk-requires
     same-length
     returns-2)

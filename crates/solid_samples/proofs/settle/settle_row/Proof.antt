@@ -14,11 +14,11 @@ use Rattle.solid_samples.proofs.settle.settle_row.Statement.{statement}
 use Rattle.solid_samples.proofs.settle.settle_row.Tie as tie
 
 abbrev Inv-loop : tie.InvT-loop
-Inv-loop code grid parent y z first picture₀ values count₀ x₀ picture count x =
+Inv-loop code grid parent y z values first picture₀ count₀ x₀ picture count x =
     AtColumn true 1 4 1 code grid [] (parent .x) (parent .xend) y z picture₀ picture count x
 
 abbrev μ-loop : tie.MeasureT-loop
-μ-loop code grid parent y z first picture₀ values count₀ x₀ picture count x = parent .xend - x
+μ-loop code grid parent y z values first picture₀ count₀ x₀ picture count x = parent .xend - x
 
 -- The places: the start, the loop, a turn of it, after the call, and past the loop.
 abbrev begun : tie.After-struct-known Inv-loop μ-loop → tie.Start Inv-loop μ-loop
@@ -72,8 +72,8 @@ mul-value c =
     let p = start l .pre in
     omega (arith, c .before .if2 .taken, p .first-in, p .all .cell .xs, p .all .side)
 
-array-copy-out-value : tie.Need-array-copy-out-value Inv-loop μ-loop
-array-copy-out-value c =
+element-copy-out-value : tie.Need-element-copy-out-value Inv-loop μ-loop
+element-copy-out-value c =
     let l = at-test (c .before) in
     let p = start l .pre in
     omega (arith, c .before .if2 .taken, p .first-in, p .all .cell .xs, p .all .side)
@@ -135,7 +135,7 @@ settle-row-spec =
     add-value
     cast-value
     mul-value
-    array-copy-out-value
+    element-copy-out-value
     settle-lane-requires
     add-count
     add-x

@@ -5,8 +5,8 @@ use lib.Dec.{ltb}
 use borrow.Author.Tests.{lt-ltb, le-ltb}
 use Rattle.rules.specs.Values.{pick}
 use Rattle.walk.proofs.Signs.{sign}
-use Rattle.solid_samples.proofs.settle.raised.Statement.{statement}
-use Rattle.solid_samples.proofs.settle.raised.Tie as tie
+use Rattle.solid_samples.proofs.whole.raised.Statement.{statement}
+use Rattle.solid_samples.proofs.whole.raised.Tie as tie
 
 greater : (c : tie.Joined1)
     → let a = c .before .args in c .if1 .top ≡ pick (ltb (a .now) (a .height)) (a .height) (a .now)
