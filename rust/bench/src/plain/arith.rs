@@ -36,7 +36,7 @@ pub fn divide(a: i32, b: i32) -> i32 {
 /// so its root lies further from a whole number than rounding to 53 bits can move it. Adding 2^52 less a half leaves that
 /// whole part in the lowest bits: the machine does all of it on several at once, where it converts to whole numbers one by
 /// one.
-#[cfg(not(feature = "held"))]
+#[cfg(not(feature = "core-root"))]
 pub fn root(a: i32) -> i32 {
     const HALF_BELOW: f64 = 4_503_599_627_370_495.5;
     let under = a.max(0) as f64 * 65536.0 + 0.5;
@@ -45,7 +45,7 @@ pub fn root(a: i32) -> i32 {
 
 /// The core's root, whose language does not have the machine's: an estimate by two steps of Heron's with one division,
 /// rounded to 256ths by adding 2^44, which is the root or one more, and one step down.
-#[cfg(feature = "held")]
+#[cfg(feature = "core-root")]
 pub fn root(a: i32) -> i32 {
     const LIFT: f64 = 17_592_186_044_416.0;
     let x = a.max(0) as f64 + 1.0 / 131_072.0;

@@ -1,5 +1,6 @@
 //! The lanes run several at once: the archive has the machine's operations on four numbers side by side, and for squares and
-//! roots those on two of twice the width. The compiler makes them of the lanes or does not, and says nothing.
+//! roots those on two of twice the width; and the loop that cuts calls nothing. The compiler does so or does not, and says
+//! nothing.
 
 use std::path::{Path, PathBuf};
 
@@ -43,14 +44,23 @@ fn files(archive: &[u8]) -> Vec<&[u8]> {
     found
 }
 
-/// The code of every function of a crate that stands in an object file by itself: its section is called by its name.
-fn code_of(object: &[u8], crate_name: &str) -> Vec<u8> {
+/// The sections of an object file: the name of each, and its bytes. A function that is compiled apart has its own, by its
+/// name.
+fn sections(object: &[u8]) -> Vec<(&[u8], &[u8])> {
     let (headers, size, count) = (number(object, 0x28, 8), number(object, 0x3A, 2), number(object, 0x3C, 2));
     let header = |i: usize| &object[headers + i * size..][..size];
     let names = number(header(number(object, 0x3E, 2)), 0x18, 8);
+    let named = |h: &[u8]| object[names + number(h, 0, 4)..].split(|byte| *byte == 0).next().expect("a name");
+    // what is not code may have a length and no bytes
+    let code = (0..count).map(header).filter(|h| number(h, 4, 4) == 1);
+    code.map(|h| (named(h), &object[number(h, 0x18, 8)..][..number(h, 0x20, 8)])).collect()
+}
+
+/// The code of every function of a crate that stands in an object file by itself.
+fn code_of(object: &[u8], crate_name: &str) -> Vec<u8> {
     let start = format!(".text.{crate_name}::");
-    let own = (0..count).map(header).filter(|h| object[names + number(h, 0, 4)..].starts_with(start.as_bytes()));
-    own.flat_map(|h| object[number(h, 0x18, 8)..][..number(h, 0x20, 8)].to_vec()).collect()
+    let own = sections(object).into_iter().filter(|(name, _)| name.starts_with(start.as_bytes()));
+    own.flat_map(|(_, code)| code.to_vec()).collect()
 }
 
 #[test]
@@ -61,11 +71,14 @@ fn lanes_run_several_at_once() {
     }
 }
 
+/// The object files of an archive.
+fn objects(archive: &[u8]) -> impl Iterator<Item = &[u8]> {
+    files(archive).into_iter().filter(|file| file.starts_with(b"\x7FELF"))
+}
+
 /// How often an operation stands in the functions of a crate that the archive has by themselves.
 fn count_in(crate_name: &str, operation: u8) -> usize {
-    let archive = archive();
-    let objects = files(&archive).into_iter().filter(|file| file.starts_with(b"\x7FELF"));
-    objects.map(|object| count(&code_of(object, crate_name), operation)).sum()
+    objects(&archive()).map(|object| count(&code_of(object, crate_name), operation)).sum()
 }
 
 /// A run over eight boxes compares the ends of several at once, for each minimum and maximum and for their choices: one by
@@ -81,4 +94,14 @@ fn ranges_run_several_at_once() {
 fn roots_run_two_at_once() {
     let found = count_in("lanes", DIVIDED);
     assert_eq!(found, 4, "divisions of two lanes in the root of a row");
+}
+
+/// The step over one clause of shortening is compiled into the loop that cuts, which is the only one that calls it: called as
+/// a function of its own, flat drawings are slower by a twelfth.
+#[test]
+fn a_clause_is_cut_within_the_loop() {
+    let archive = archive();
+    let apart = |name: &[u8]| objects(&archive).flat_map(sections).any(|section| section.0 == name);
+    assert!(apart(b".text.shortening::cut::cut_by"), "the loop that cuts is not found in the archive");
+    assert!(!apart(b".text.shortening::cut::mark_clause"), "the step over one clause is a function of its own");
 }
