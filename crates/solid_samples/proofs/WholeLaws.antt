@@ -25,10 +25,13 @@ use Rattle.walk.proofs.Loops.{AtColumn, row-begins, row-again, row-done}
 use Rattle.walk.proofs.Places.{ready-again}
 use Rattle.solid_samples.specs.Chunks.{rowIn, chunkIn, RowValues}
 use Rattle.solid_samples.specs.Samples.{ForSamples, withSample}
-use Rattle.solid_samples.specs.Whole.{FourFrom, heightsOf, oneBelow, fourBelow, allBelow, putRow, Raised, ForWhole}
+use Rattle.solid_samples.specs.Whole.{FourFrom, fourBefore, heightsOf, oneBelow, fourBelow, allBelow, putRow, Raised, ForWhole}
 use Rattle.solid_samples.proofs.SampleLaws.{hidden-stored, seen-stored, samples-again}
 use Rattle.solid_samples.proofs.SampleLaws.{pixel-most, pixel-in}
 use Rattle.solid_samples.proofs.ChunkLaws.{row-there, folds-as, folds-both}
+
+plus-none : (x : ℕ) → x ≡ x + 0
+plus-none x = omega arith
 
 -- Pixels that took the heights of lanes.
 module _ (b : List ℕ) (at : ℕ) (rs : List ℕ) (f : ℕ) where
@@ -126,13 +129,10 @@ module _ {ws : List ℕ} {grid : Grid} {c : Cell} {y z : ℕ} {b : List ℕ} (p 
       → AtColumn true 1 4 1 ws grid [] (c .x) (c .xend) y z b (putRow n b at rs f) (seen n * length ws) (c .x + n)
   unfolding putRow
   at-column zero h =
-      subst (λ (x : ℕ). AtColumn true 1 4 1 ws grid [] (c .x) (c .xend) y z b b (0 * length ws) x) (none (c .x))
+      subst (λ (x : ℕ). AtColumn true 1 4 1 ws grid [] (c .x) (c .xend) y z b b (0 * length ws) x) (plus-none (c .x))
       (subst (λ (k : ℕ). AtColumn true 1 4 1 ws grid [] (c .x) (c .xend) y z b b k (c .x)) (nought (length ws))
       (row-begins b (omega arith) (omega (arith, wide))))
     where
-      none : (x : ℕ) → x ≡ x + 0
-      none x = omega arith
-
       nought : (n : ℕ) → 0 ≡ 0 * n
       nought n = omega arith
   at-column (suc n) h =
@@ -161,26 +161,27 @@ module _ {ws : List ℕ} {grid : Grid} {c : Cell} {y z : ℕ} {b : List ℕ} (p 
       four : seen 4 ≡ fourBelow hs g (z + 1)
       four = omega (arith, same 0 (omega arith), same 1 (omega arith), same 2 (omega arith), same 3 (omega arith))
 
--- The lanes of both rows.
-lower-lane : (b : List ℕ) (l u k : ℕ) → k < 4 → getD (heightsOf b l u) (0 + k) 0 ≡ getD b (l + k) 0
-lower-lane b l u zero h = ap (λ (q : ℕ). getD b q 0) (none l)
-  where
-    none : (x : ℕ) → x ≡ x + 0
-    none x = omega arith
-lower-lane b l u (suc zero) h = refl
-lower-lane b l u (suc (suc zero)) h = refl
-lower-lane b l u (suc (suc (suc zero))) h = refl
-lower-lane b l u (suc (suc (suc (suc k)))) h = absurd (omega arith)
+-- A lane of four heights that stand first; and of both rows.
+four-lane : (b : List ℕ) (at : ℕ) (hs : List ℕ) (k : ℕ) → k < 4
+    → getD (fourBefore b at hs) k 0 ≡ getD b (at + k) 0
+four-lane b at hs zero h = ap (λ (q : ℕ). getD b q 0) (plus-none at)
+four-lane b at hs (suc zero) h = refl
+four-lane b at hs (suc (suc zero)) h = refl
+four-lane b at hs (suc (suc (suc zero))) h = refl
+four-lane b at hs (suc (suc (suc (suc k)))) h = absurd (omega arith)
 
-upper-lane : (b : List ℕ) (l u k : ℕ) → k < 4 → getD (heightsOf b l u) (4 + k) 0 ≡ getD b (u + k) 0
-upper-lane b l u zero h = ap (λ (q : ℕ). getD b q 0) (none u)
-  where
-    none : (x : ℕ) → x ≡ x + 0
-    none x = omega arith
-upper-lane b l u (suc zero) h = refl
-upper-lane b l u (suc (suc zero)) h = refl
-upper-lane b l u (suc (suc (suc zero))) h = refl
-upper-lane b l u (suc (suc (suc (suc k)))) h = absurd (omega arith)
+module _ (b : List ℕ) (l u : ℕ) (k : ℕ) (h : k < 4) where
+  lower-lane : getD (heightsOf b l u) (0 + k) 0 ≡ getD b (l + k) 0
+  lower-lane = ap (λ (q : ℕ). getD (heightsOf b l u) q 0) (none k) ∙ four-lane b l (fourBefore b u []) k h
+    where
+      none : (n : ℕ) → 0 + n ≡ n
+      none n = omega arith
+
+  upper-lane : getD (heightsOf b l u) (4 + k) 0 ≡ getD b (u + k) 0
+  upper-lane = ap (λ (q : ℕ). getD (heightsOf b l u) q 0) (four k) ∙ four-lane b u [] k h
+    where
+      four : (n : ℕ) → 4 + n ≡ suc (suc (suc (suc n)))
+      four n = omega arith
 
 whole-settled : {ws : List ℕ} {grid : Grid} {c : Cell} {y z : ℕ} {vs : List ℤ} {b : List ℕ}
     → ForWhole ws grid c y z vs b → (l u : ℕ) → l ≡ y * grid .width + c .x → u ≡ l + grid .width → (rs : List ℕ)
@@ -262,10 +263,7 @@ module _ {ws : List ℕ} {grid : Grid} {c : Cell} {y z : ℕ} {vs : List ℤ} {b
 
     pub lower-four : FourFrom (y * grid .width + c .x) b
     lower-four =
-        subst (λ (k : ℕ). FourFrom (k * grid .width + c .x) b) (none y) (in-row 0 (omega (arith, p .rows)))
-      where
-        none : (x : ℕ) → x + 0 ≡ x
-        none x = omega arith
+        subst (λ (k : ℕ). FourFrom (k * grid .width + c .x) b) (sym (plus-none y)) (in-row 0 (omega (arith, p .rows)))
 
     pub upper-four : FourFrom (y * grid .width + c .x + grid .width) b
     upper-four =

@@ -16,13 +16,12 @@ pub record FourFrom (at : ℕ) (b : List ℕ) : Type 0 where
   pub small : at < 262144
   pub within : at + 4 ≤ length b
 
+-- Four heights from `at` on before others; and those of both rows.
+abbrev pub fourBefore : List ℕ → ℕ → List ℕ → List ℕ
+fourBefore b at hs = getD b at 0 ∷ (getD b (at + 1) 0 ∷ (getD b (at + 2) 0 ∷ (getD b (at + 3) 0 ∷ hs)))
+
 abbrev pub heightsOf : List ℕ → ℕ → ℕ → List ℕ
-heightsOf b l u =
-    getD b l 0
-    ∷ (getD b (l + 1) 0
-    ∷ (getD b (l + 2) 0
-    ∷ (getD b (l + 3) 0
-    ∷ (getD b u 0 ∷ (getD b (u + 1) 0 ∷ (getD b (u + 2) 0 ∷ (getD b (u + 3) 0 ∷ [])))))))
+heightsOf b l u = fourBefore b l (fourBefore b u [])
 
 -- 1 where the height a is below h.
 abbrev pub oneBelow : ℕ → ℕ → ℕ
