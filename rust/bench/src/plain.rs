@@ -1,6 +1,7 @@
 //! A plain Rust version of the walk: the same regions in the same order, the same packed words, the same rules and
 //! limits. A short tape is kept as its words, and not as marks beside the tape as given: so one would write the walk if
-//! nothing bounded the room to work in. It trusts its tape and grid, so it is given only those that the core accepted.
+//! nothing bounded the room to work in. The features `core-root`, `two-words` and `marks` hold it to a means of the core
+//! each. It trusts its tape and grid, so it is given only those that the core accepted.
 
 mod arith;
 mod flat;
