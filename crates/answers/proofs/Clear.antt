@@ -7,7 +7,6 @@ use native.Mathlib.Omega.{arith}
 use lib.Dec.{eqb, ltb}
 use borrow.Author.Tests.{eqb-true, ltb-false}
 use Rattle.rules.specs.Values.{when}
-use Rattle.rules.specs.Tapes.{read_tape}
 use Rattle.rules.specs.Drawings as D
 use Rattle.rules.specs.Pictures.{picture_size}
 use Rattle.rules.proofs.Tests.{last_off}

@@ -1,5 +1,7 @@
 // What a call answers, and its checks: a call lists them in the paper's order, each gives the number of its line in the
 // scope paper's table or 0, and the first that holds is returned.
+#![tactic(auto)]
+
 pub mod lines;
 
 ghost use Rattle.std.specs.Prelude.{◌≡◌};
@@ -7,7 +9,7 @@ ghost use Rattle.rules.specs.Values.{first_fault};
 
 // The number of the paper's table, the clause at fault, and the clauses counted.
 #[repr(C)]
-#[derive(Drop)]
+#[derive(Clone, Copy)]
 pub struct Answer {
     pub number: u8,
     pub place: u32,

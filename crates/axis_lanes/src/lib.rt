@@ -1,4 +1,6 @@
 // Eight samples of an axis, one a lane.
+#![tactic(auto)]
+
 ghost use Rattle.std.specs.Prelude.{◌≡◌, ◌+◌, ◌<◌, ◌≤◌};
 ghost use Rattle.rules.specs.Drawings.{size_limit};
 ghost use Rattle.axis_lanes.specs.Axes.{ForLanes, LaneSamples};

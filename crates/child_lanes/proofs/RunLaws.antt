@@ -13,7 +13,7 @@ use Rattle.rules.specs.Values.{Range, Box}
 use Rattle.rules.specs.Drawings.{region, box_of, grid_fault}
 use Rattle.lanes.specs.Lanes.{lane_count, lane}
 use Rattle.code.specs.Runs.{BoxOk, column, Bounded}
-use Rattle.range_sweep.specs.Boxes.{end_rows, box_at, slot_range, Boxed, LentEnds}
+use Rattle.range_sweep.specs.Boxes.{end_rows, slot_range, Boxed, LentEnds}
 use Rattle.picture.specs.Shapes.{grid_in}
 use Rattle.picture.specs.declared.grid.Grid.{Grid}
 use Rattle.walk.specs.Cells.{layers_in, region_in, ForBox, CellOk, CellBox}

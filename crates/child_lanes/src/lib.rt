@@ -1,5 +1,7 @@
 // Children of a region by their numbers, eight run together: the box of each, one a lane, and in a flat region the run that
 // a child belongs to.
+#![tactic(auto)]
+
 ghost use Rattle.fixed.specs.Shapes.{box_in};
 ghost use Rattle.child_lanes.specs.ChildLanes.{ForChildBox, ChildBox, ForBoxes, ChildBoxes};
 ghost use Rattle.child_lanes.specs.ChildLanes.{ForRunBy, RanBy, ForFollowing, Following, ForRun, Ran};

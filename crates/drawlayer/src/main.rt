@@ -1,6 +1,8 @@
 // The program: a grid record and a tape on standard input, the file on standard output and the count on descriptor 2,
 // or the refusal on standard output. The count comes last, and only behind a whole picture: who reads it knows that
 // none was cut.
+#![tactic(auto)]
+
 use program::{LINE, OUTPUT, draw_layer, input_room};
 
 fn main() {

@@ -1,6 +1,8 @@
 // The figures of the scope paper that are run, by the public calls: tapes, both files, and the limits; and the drawn
 // figures of tapes of edition 02, of two tapes into one, and of tiles in both orders. Number, place and count of each
 // call are written.
+#![tactic(auto)]
+
 mod files;
 mod limits;
 mod orders;

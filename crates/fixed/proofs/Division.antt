@@ -9,7 +9,7 @@ use native.Mathlib.Nat.{div-le_self, lt_of_le_of_lt}
 use native.Mathlib.Omega.{arith}
 use borrow.Author.Tests.{ltb-true, ltb-false, le-ltb}
 use mir.Syntax.{Width, w32, w64}
-use mir.Val.{Fits, SFits, to_z, of_z}
+use mir.Val.{Fits, SFits, of_z}
 use mir.Facts.{to_z-of_z}
 use Rattle.rules.specs.Values.{pick, is_neg, clamped, fraction, end_of, quotient}
 use Rattle.fixed.proofs.Words.{read, back_one, back_two, nat_abs_fits, nat_abs_neg, mag_product}

@@ -15,18 +15,18 @@ use Rattle.fixed.proofs.Words.{read, back_one}
 
 -- The lesser of two naturals by a test is `min`, the greater `max`.
 lesser : (a b : ℕ) → pick (ltb b a) b a ≡ min a b
-lesser a b = by_test (ltb b a) refl
+lesser a b = by_test_lem (ltb b a) refl
   where
-    by_test : (t : Bool) → ltb b a ≡ t → pick t b a ≡ min a b
-    by_test true e = omega (arith, ltb-true b a e)
-    by_test false e = omega (arith, ltb-false b a e)
+    by_test_lem : (t : Bool) → ltb b a ≡ t → pick t b a ≡ min a b
+    by_test_lem true e = omega (arith, ltb-true b a e)
+    by_test_lem false e = omega (arith, ltb-false b a e)
 
 greater : (a b : ℕ) → pick (ltb a b) b a ≡ max a b
-greater a b = by_test (ltb a b) refl
+greater a b = by_test_lem (ltb a b) refl
   where
-    by_test : (t : Bool) → ltb a b ≡ t → pick t b a ≡ max a b
-    by_test true e = omega (arith, ltb-true a b e)
-    by_test false e = omega (arith, ltb-false a b e)
+    by_test_lem : (t : Bool) → ltb a b ≡ t → pick t b a ≡ max a b
+    by_test_lem true e = omega (arith, ltb-true a b e)
+    by_test_lem false e = omega (arith, ltb-false a b e)
 
 pick_of : {A B : Type 0} (f : A → B) (t : Bool) (a b : A) → pick t (f a) (f b) ≡ f (pick t a b)
 pick_of f true a b = refl

@@ -10,7 +10,7 @@ use native.Mathlib.Omega.{arith}
 use borrow.Author.Tests.{ltb-true, ltb-false}
 use mir.Syntax.{Width, w32, w64}
 use mir.Val.{SFits, hbits, to_z, of_z}
-use mir.Facts.{to_z-of_z, sfits_widen}
+use mir.Facts.{to_z-of_z}
 use Rattle.rules.specs.Values.{IsValue, pick, floored, absolute}
 pub use Rattle.rules.proofs.Words.{read, wide, read_wide, read_fits, back, both, tested}
 
@@ -50,15 +50,15 @@ module _ (op : ℤ → ℤ → ℤ) {a b : ℤ} (fa : SFits w32 a) (fb : SFits w
 -- The shift by 16 places rounds down.
 pub shifted : (p : ℤ) {z : ℤ} → read w64 p ≡ z → SFits w64 z → read w64 (floored (read w64 p)) ≡ floored z
 shifted p {z} e f =
-    ap (λ y. read w64 (floored y)) e ∙ to_z-of_z (record { sfits = lt_of_le_of_lt (mag_shr z 65536) f.sfits })
+    ap (λ y. read w64 (floored y)) e ∙ to_z-of_z {w = w64} (record { sfits = lt_of_le_of_lt (mag_shr z 65536) f.sfits })
 
 -- Sums, differences and products of two numbers of 32 bits fit in 64.
 mag_sub : (a b : ℕ) → mag (sub_ℕ a b) ≤ a + b
-mag_sub a b = by_test (ltb a b) refl
+mag_sub a b = by_test_lem (ltb a b) refl
   where
-    by_test : (t : Bool) → ltb a b ≡ t → mag (sub_ℕ a b) ≤ a + b
-    by_test true e = rw e (omega (arith, ltb-true a b e))
-    by_test false e = rw e (omega (arith, ltb-false a b e))
+    by_test_lem : (t : Bool) → ltb a b ≡ t → mag (sub_ℕ a b) ≤ a + b
+    by_test_lem true e = rw e (omega (arith, ltb-true a b e))
+    by_test_lem false e = rw e (omega (arith, ltb-false a b e))
 
 mag_neg : (n : ℕ) → mag (neg_ℤ (pos n)) ≤ n
 mag_neg zero = omega arith

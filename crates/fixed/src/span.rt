@@ -7,7 +7,7 @@ ghost use Rattle.fixed.specs.Shapes.{range_in, over_ends, ValueEnds, InOrder};
 use crate::value;
 
 // A range of values, by its ends.
-#[derive(Drop)]
+#[derive(Clone, Copy)]
 pub struct Span {
     pub low: i32,
     pub high: i32,

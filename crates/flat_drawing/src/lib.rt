@@ -1,5 +1,7 @@
 // The flat drawing, in full and by tiles: the checks, and then the drawing of the tape's words, in arrays of the call's own
 // that are as long as any tape needs.
+#![tactic(auto)]
+
 ghost use Rattle.std.specs.Prelude.{false, ◌≡◌, length};
 ghost use Rattle.rules.specs.Tapes.{clause_limit};
 ghost use Rattle.picture.specs.Shapes.{grid_in};

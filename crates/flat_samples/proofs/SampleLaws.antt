@@ -31,9 +31,9 @@ module _ (grid : Grid) (x y : ℕ) {a b c : ℤ} (ea : a ≡ at grid.xorigin gri
   unfolding sample_at
   sample_is = rw (ea, eb, ec)
 
-  pub sample_ok : grid_fault false (grid_in grid false) ≡ 0 → InGrid 1 grid x y 0
+  pub sample_ok_lem : grid_fault false (grid_in grid false) ≡ 0 → InGrid 1 grid x y 0
       → SampleOk (record { x = a; y = b; z = c })
-  sample_ok e i =
+  sample_ok_lem e i =
       let t = accepted grid false e in
       record {
         x = subst IsValue (sym ea) (t.x_value x i.x_in);

@@ -27,7 +27,7 @@ use Rattle.walk.specs.declared.cell.Cell.{Cell}
 use Rattle.axis_lanes.specs.Axes.{LaneSamples}
 use Rattle.flat_samples.specs.Rows.{materials, Splats, SignsAre, SignByte, RowsRun}
 use Rattle.flat_samples.proofs.SampleRows.{materials_length}
-use Rattle.flat_samples.proofs.SampleLaws.{sample_is, sample_ok}
+use Rattle.flat_samples.proofs.SampleLaws.{sample_is, sample_ok_lem}
 
 -- Samples past the last one, all without material, leave a row's byte as it is.
 none_on : (n m : ℕ) → row_byte_from n (replicate m false) ≡ 0
@@ -125,7 +125,7 @@ module _ {grid : Grid} {p : Cell} (ok : CellOk 1 grid p) (eight : p.side ≡ 8)
           let y = sy.at c k v w ∙ ey.here c v l in
           let z = sz.at c k v w ∙ ez.at c v in
           let s = sample_is grid (p.x + k) (p.y + c) x y z in
-          let o = sample_ok grid (p.x + k) (p.y + c) x y z fault
+          let o = sample_ok_lem grid (p.x + k) (p.y + c) x y z fault
           (record { x_in = omega (arith, ok.xs); y_in = omega (arith, ok.ys, l); z_in = omega arith }) in
           ap is_neg (swept.values n c k a (omega (arith, l)) w o ∙ ap (value_at (tape_in n ws)) s)
           ∙ sym (materials_at (tape_in n ws) (grid_in grid false) (p.y + c) (p.xend - p.x) p.x k h)

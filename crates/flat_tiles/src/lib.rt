@@ -1,2 +1,4 @@
 // The flat drawing by tiles: regions of side 64, those of a rectangle or all.
+#![tactic(auto)]
+
 pub mod tiles;

@@ -1,9 +1,8 @@
 -- Names, letter by letter, and the bracket after one.
-use mathlib.Core.Path.{◌≡◌, refl, sym, subst, ap, ◌∙◌}
+use mathlib.Core.Path.{◌≡◌, refl, subst, ap, ◌∙◌}
 use mathlib.Core.Bool.{Bool, true, false}
 use mathlib.Core.List.{List}
 use mathlib.Core.Logic.{◌≢◌}
-use lib.IntN.{pos}
 use Prim.Native.Nat.{ℕ, zero, suc, ◌+◌, ◌-◌, ◌≤◌, ◌<◌}
 use native.Mathlib.Numerals.{add-one}
 use native.Mathlib.Omega.{arith}
@@ -12,9 +11,9 @@ use lib.ListN.{length, get_or}
 use borrow.Author.Tests.{ltb-true, ltb-false, ne_eqb}
 use Rattle.formula_rules.specs.Trees.{Axis, axisX, axisY, axisZ, axis}
 use Rattle.formula_rules.specs.Formulas.{axis_byte}
-use Rattle.formula_rules.specs.Formulas.{absName, sqrName, rootName, minName, maxName, One, Two, one_tree, two_tree}
-use Rattle.formula_rules.specs.FormulaReader.{Level, Frame, called, first_of, opened, Spelling, a-, ab-, s-, sq-, r-, ro-, roo-}
-use Rattle.formula_rules.specs.FormulaReader.{m-, mi-, ma-, Function, of_one, of_two, Mode, want, spelling, named, state, no, go}
+use Rattle.formula_rules.specs.Formulas.{absName, sqrName, rootName, minName, maxName}
+use Rattle.formula_rules.specs.FormulaReader.{Level, Frame, called, opened, Spelling, a-, ab-, s-, sq-, r-, ro-, roo-}
+use Rattle.formula_rules.specs.FormulaReader.{m-, mi-, ma-, Function, of_one, of_two, Mode, want, spelling, named, no}
 use Rattle.formula_rules.specs.FormulaReader.{choose, move_in, end_in, breaks, opener_of}
 use Rattle.formula_rules.specs.FormulaCalls.{Blank, ItemStops, ModeRead}
 use Rattle.formula_rules.specs.FormulaTapes.{axis_opcode}

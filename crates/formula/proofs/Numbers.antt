@@ -1,7 +1,7 @@
 -- Digits that were read, as the reader's modes, and the numbers that they end.
-use mathlib.Core.Path.{◌≡◌, refl, sym, subst, ap, ◌∙◌}
+use mathlib.Core.Path.{◌≡◌, refl, sym, ap, ◌∙◌}
 use mathlib.Core.Bool.{Bool, true, false, ◌&&◌, true≢false}
-use mathlib.Core.List.{List, [], ◌∷◌}
+use mathlib.Core.List.{List}
 use mathlib.Core.Logic.{◌≢◌}
 use lib.IntN.{pos}
 use Prim.Native.Nat.{ℕ, zero, suc, ◌+◌, ◌-◌, ◌*◌, ◌/◌, ◌^◌, ◌≤◌, ◌<◌}
@@ -120,7 +120,7 @@ ran_digits {text = text} {n = n} zero (next j v k none h e f g) =
     let q : 10 * 0 + (get_or text n 0 - 48) ≡ get_or text n 0 - 48 = omega arith in
     rw q (digit_start text n h e)
 ran_digits {text = text} {n = n} (suc i) (next j v k r h e f g) =
-    digit_step text n j v (suc i) (ran_digits i r) h e f g
+    digit_step text n j v (suc i) (ran_digits {j = j} i r) h e f g
 
 ran_decimals : {text : List ℕ} {n m v j f : ℕ} (k : ℕ) → ModeRead text n m (point v) → Ran text m 4 9999 j f (suc k)
     → ModeRead text n j (after (decimals v f (suc k)))
@@ -128,7 +128,7 @@ ran_decimals {text = text} {n = n} {m = m} {v = v} zero p (next j f k none h e g
     let q : 10 * 0 + (get_or text m 0 - 48) ≡ get_or text m 0 - 48 = omega arith in
     rw q (decimal_start text n m v p h e)
 ran_decimals {text = text} {n = n} {v = v} (suc c) p (next j f k r h e g i) =
-    decimal_step text n j v f (suc c) (ran_decimals c p r) h e g
+    decimal_step text n j v f (suc c) (ran_decimals {j = j} c p r) h e g
 
 -- None: no digit stands there.
 digit_free : (b most top : ℕ) → 1 ≤ most → 9 ≤ top → (is_digit b && (leb 1 most && leb (b - 48) top)) ≡ false

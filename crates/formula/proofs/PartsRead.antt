@@ -321,7 +321,7 @@ two_small maxName code e = omega (arith, e)
 module _ (text : List ℕ) (d slot : ℕ) (c : Cursor) (zs zs₁ : List ℤ) (r : Read) (j code : ℕ) (shallow : d < 32) where
   from_bracket : Reads (ItemRead text c.at d) (ItemStops text c.at d) text (moved_to c (j + 1)) slot zs zs₁ r
       → c.at ≤ j → Reads (ItemRead text c.at d) (ItemStops text c.at d) text c slot zs zs₁ r
-  from_bracket g h = reads_as text c slot zs zs₁ r (j + 1) (omega arith) (λ m t q. q) (λ a q. q) g
+  from_bracket g h = reads_as {S = ItemStops text c.at d} text c slot zs zs₁ r (j + 1) (omega arith) (λ m t q. q) (λ a q. q) g
 
   pub one_item : OneAt text c.at j code → OneSays text (moved_to c (j + 1)) slot (d + 1) code zs zs₁ r
       → Reads (ItemRead text c.at d) (ItemStops text c.at d) text c slot zs zs₁ r

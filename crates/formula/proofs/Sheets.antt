@@ -1,8 +1,8 @@
 -- What is written on a sheet.
-use mathlib.Core.Path.{◌≡◌, refl, sym, ap, ap₂, ◌∙◌}
+use mathlib.Core.Path.{◌≡◌, refl, ap₂}
 use mathlib.Core.List.{List, [], ◌∷◌}
-use lib.IntN.{ℤ, pos}
-use Prim.Native.Nat.{ℕ, suc, ◌+◌, ◌*◌, ◌≤◌, ◌<◌, max}
+use lib.IntN.{ℤ}
+use Prim.Native.Nat.{ℕ, ◌+◌, ◌*◌, ◌≤◌, ◌<◌, max}
 use native.Mathlib.Omega.{arith}
 use lib.Dec.{ltb}
 use lib.Seq.{sets}
@@ -11,10 +11,10 @@ use mir.Val.{to_z}
 use mir.Facts.{to_z_pos}
 use Rattle.rules.specs.Values.{pick}
 use Rattle.formula_rules.specs.FormulaTapes.{text_clauses}
-use Rattle.formula_rules.specs.FormulaDepths.{Sheet, five, emit}
+use Rattle.formula_rules.specs.FormulaDepths.{five, emit}
 use Rattle.formula.specs.declared.sheet.Cursor.{Cursor}
 use Rattle.formula.specs.declared.sheet.Clause.{Clause}
-use Rattle.formula.specs.Cursors.{clause_of, sheet_on, CanStore, Emitted}
+use Rattle.formula.specs.Cursors.{clause_of, CanStore, Emitted}
 
 -- A clause's numbers as the machine has them.
 pub numbers_stored : (zs : List ℤ) (n : ℕ) (c : Clause) → CanStore zs n c → n < 1024

@@ -1,7 +1,6 @@
 -- Cursors and the sheet that they write on: what a call that reads a part promises of both.
-use Rattle.std.specs.Prelude.{◌≡◌, List, ℤ, pos, ℕ, suc, ◌+◌, ◌*◌, ◌≤◌, ◌<◌, length}
+use Rattle.std.specs.Prelude.{◌≡◌, List, ℤ, pos, ℕ, ◌+◌, ◌≤◌, ◌<◌, length}
 use Rattle.rules.specs.Values as values
-use Rattle.formula_rules.specs.Trees.{Tree}
 use Rattle.formula_rules.specs.FormulaTapes.{step}
 use Rattle.formula_rules.specs.FormulaDepths.{Sheet, emit}
 use Rattle.formula.specs.declared.sheet.Cursor.{Cursor}

@@ -19,7 +19,7 @@ const POINT: u32 = 46;
 const UNIT: u32 = 65536;
 
 // Digits that were read: where they end, their value and how many they are.
-#[derive(Drop)]
+#[derive(Clone, Copy)]
 pub struct Run {
     pub at: usize,
     pub value: u32,
@@ -27,7 +27,7 @@ pub struct Run {
 }
 
 // What a number comes to: no digit stands there; or it ends there; or the text breaks off there.
-#[derive(Drop)]
+#[derive(Clone, Copy)]
 pub enum Numeral {
     No,
     Ends(usize, u32),

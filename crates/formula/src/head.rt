@@ -11,7 +11,7 @@ const OPEN: u32 = 40;
 const LAST_OF_ONE: u32 = 8;
 
 // A name: it ends there, and is the operation's with that opcode; or the text breaks off there.
-#[derive(Drop)]
+#[derive(Clone, Copy)]
 pub enum Spelt {
     Ends(usize, u32),
     Breaks(usize),
@@ -19,7 +19,7 @@ pub enum Spelt {
 
 // The whole item, with the opcode and the constant of its clause; or its bracket opens there, the one of a name with
 // that opcode, of one sum (0: it has no name) or of two; or the text breaks off there.
-#[derive(Drop)]
+#[derive(Clone, Copy)]
 pub enum Front {
     Leaf(usize, u32, u32),
     One(usize, u32),

@@ -25,14 +25,14 @@ const COMMA: u32 = 44;
 const CLOSE: u32 = 41;
 
 // Where the text breaks the rules, and where a bracket opens too deep.
-#[derive(Drop)]
+#[derive(Clone, Copy)]
 pub enum Stop {
     Breaks(usize),
     Deep(usize),
 }
 
 // A part is read, and the cursor stands after it; or the reader stops inside it.
-#[derive(Drop)]
+#[derive(Clone, Copy)]
 pub enum Read {
     Part(Cursor),
     Stopped(Stop),

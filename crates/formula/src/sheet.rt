@@ -10,7 +10,7 @@ use tape::list::put_numbers;
 use tape::{CLAUSE_NUMBERS, FIRST_CLAUSES, Fields};
 
 // A place in the text, with the clauses written up to there and the slots that they use.
-#[derive(Drop)]
+#[derive(Clone, Copy)]
 pub struct Cursor {
     pub at: usize,
     pub count: usize,
@@ -18,7 +18,7 @@ pub struct Cursor {
 }
 
 // A clause that is to be written. Its slots are no more than the clauses before it.
-#[derive(Drop)]
+#[derive(Clone, Copy)]
 pub struct Clause {
     pub opcode: u32,
     pub out: usize,

@@ -6,7 +6,7 @@ use lib.IntN.{ℤ, pos}
 use Prim.Native.Nat.{ℕ, suc, ◌+◌, ◌*◌, ◌<◌, ◌≤◌}
 use native.Mathlib.Omega.{arith}
 use lib.Dec.{leb}
-use lib.ListN.{length, take}
+use lib.ListN.{take}
 use borrow.Author.Tests.{le-leb, leb-true, lt-leb}
 use Rattle.rules.specs.Values.{IsValue, Clause, Sample}
 use Rattle.rules.specs.Tapes.{Tape, last_opcode, is_in, value_at, Got, good, read_tape, read_list, tape_bytes, list_of}

@@ -7,7 +7,7 @@ use Rattle.formula_rules.specs.Trees.{Tree, axisX}
 use Rattle.formula_rules.specs.Formulas.{one, count, Decimals, decimal, plus, absName, sqrName, rootName, minName}
 use Rattle.formula_rules.specs.Formulas.{maxName, Sum, product, joined, signed, plain, Item, constant, variable, bracket}
 use Rattle.formula_rules.specs.Formulas.{call, pair, Text, spaces, write_digits, write_sum, write_item, bytes_of, tree_of}
-use Rattle.formula_rules.specs.FormulaReader.{digits, after, Spelling, a-, ab-, s-, sq-, r-, ro-, roo-, m-, mi-, ma-}
+use Rattle.formula_rules.specs.FormulaReader.{Spelling, a-, ab-, s-, sq-, r-, ro-, roo-, m-, mi-, ma-}
 use Rattle.formula_rules.specs.FormulaReader.{of_one, of_two, Answer, done, breaks, end_in}
 use Rattle.formula_rules.proofs.FormulaParts.{Open, Opening, Part, Partial, Reading, ends, frames_of, fresh_part}
 use Rattle.formula_rules.proofs.FormulaParts.{item_bytes, item_sum_tree, item_sum, level_of, mode_of, names, open_first}

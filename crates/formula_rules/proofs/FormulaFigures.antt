@@ -1,13 +1,12 @@
 -- Figures about the tape of a tree, for request T-02, as rows of one list: what a definition gives, and what is said.
 use mathlib.Core.Path.{◌≡◌, refl}
-use mathlib.Core.Bool.{Bool}
 use mathlib.Core.List.{List, [], ◌∷◌, ◌++◌, map}
-use lib.IntN.{ℤ, pos}
+use lib.IntN.{pos}
 use Prim.Native.Nat.{ℕ, zero, suc}
 use lib.ListN.{length}
 use Rattle.rules.specs.Values.{pick}
 use Rattle.rules.specs.Tapes.{edition}
-use Rattle.rules.specs.Tapes.{Tape, is_in, clause_bytes, tape_bytes}
+use Rattle.rules.specs.Tapes.{is_in, clause_bytes, tape_bytes}
 use Rattle.formula_rules.specs.Trees.{negate, add, multiply, divide, maximum, axisX, axisY, axisZ, Tree, number}
 use Rattle.formula_rules.specs.Trees.{axis, unary, binary}
 use Rattle.formula_rules.specs.FormulaTapes.{parts, beyond, lowest_from, lowest, placed, tape_of, fits_text}

@@ -43,13 +43,13 @@ module _ (N : Tree → Type 0) (numbers : (z : ℤ) → IsValue z → N (number 
     unfolding tree_sum
 
     of_sum : (s : Sum) → N (tree_sum s)
-    of_sum (product p) = of_product p
-    of_sum (joined s k o p) = twos (sum_tree o) (tree_sum s) (tree_product p) (of_sum s) (of_product p)
+    of_sum (product p) = of_product_lem p
+    of_sum (joined s k o p) = twos (sum_tree o) (tree_sum s) (tree_product p) (of_sum s) (of_product_lem p)
 
-    of_product : (p : Product) → N (tree_product p)
-    of_product (signed g) = of_signed g
-    of_product (multiplied p k o g) =
-        twos (product_tree o) (tree_product p) (tree_signed g) (of_product p) (of_signed g)
+    of_product_lem : (p : Product) → N (tree_product p)
+    of_product_lem (signed g) = of_signed g
+    of_product_lem (multiplied p k o g) =
+        twos (product_tree o) (tree_product p) (tree_signed g) (of_product_lem p) (of_signed g)
 
     of_signed : (g : Signed) → N (tree_signed g)
     of_signed (plain i) = of_item i

@@ -9,7 +9,7 @@ use Rattle.formula_rules.specs.Formulas.{product_byte, write_one, write_two, wri
 use Rattle.formula_rules.specs.Formulas.{sum_tree, product_tree, tree_sum, tree_product, tree_signed, tree_item}
 use Rattle.formula_rules.specs.FormulaReader.{Left, none, waits, Level, level, join_left, sign_tree, product_to, sum_to}
 use Rattle.formula_rules.specs.FormulaReader.{Opener, opened, called, first_of, second_of, Frame, frame, Ended, item}
-use Rattle.formula_rules.specs.FormulaReader.{digits, end_tree, Mode, want, spelling, named, point, after, State, state}
+use Rattle.formula_rules.specs.FormulaReader.{end_tree, Mode, want, spelling, named, point, after, State, state}
 use Rattle.formula_rules.specs.FormulaReader.{Spelling, a-, ab-, s-, sq-, r-, ro-, roo-, m-, mi-, ma-, of_one, of_two}
 use Rattle.formula_rules.specs.FormulaReader.{Function}
 use Rattle.formula_rules.proofs.FormulaTakes.{ending, ending_tree}

@@ -1,4 +1,6 @@
 // The full drawings: the whole tape at every sample, from packed words.
+#![tactic(auto)]
+
 pub mod count;
 pub mod flat;
 pub mod material;

@@ -1,6 +1,8 @@
 // The root of a value: the whole part of the square root of 65,536·a, and 0 where a is negative.
 // A table gives an estimate that is mostly exact, else one off; comparing squares then settles it.
 // The settling is right for every estimate, so nothing has to be known of the table but its size.
+#![tactic(auto)]
+
 mod table;
 
 ghost use Rattle.std.specs.Prelude.{◌≡◌, pos, ◌+◌, ◌*◌, ◌^◌, ◌≤◌, ◌<◌};
@@ -9,7 +11,7 @@ ghost use Rattle.rules.specs.Values.{root_of};
 use crate::table::line;
 
 // The two ends of a range.
-#[derive(Drop)]
+#[derive(Clone, Copy)]
 pub struct Ends {
     pub low: i32,
     pub high: i32,

@@ -1,5 +1,7 @@
 // Eight values side by side, the lanes, and each operation on all of them. Lanes come and go as arrays by value, which
 // the compiler takes several at once; of two references it does not assume that they differ.
+#![tactic(auto)]
+
 mod squares;
 
 ghost use Rattle.std.specs.Prelude.{◌<◌, neg_ℤ, length};

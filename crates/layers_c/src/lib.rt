@@ -1,5 +1,7 @@
 // The public calls for C and Rust: a slice is a pointer and then a length. Each promises what the call that it wraps
 // does.
+#![tactic(auto)]
+
 ghost use Rattle.std.specs.Prelude.{true, false};
 ghost use Rattle.promises.specs.Plates.{AddSays, RemoveSays};
 ghost use Rattle.promises.specs.Says.{PackSays, UnpackSays, FullSays, TilesSay, BitmapSays, HeightsSay};

@@ -1,4 +1,6 @@
 // Two tapes into one. A refused call writes nothing, a done one every byte.
+#![tactic(auto)]
+
 mod raise;
 mod write;
 

@@ -1,8 +1,8 @@
 // The merged tape's bytes: the head, the clauses of both tapes, and the minimum of their results.
-ghost use Rattle.std.specs.Prelude.{◌≡◌, [], ◌∷◌, map, ◌+◌, ◌*◌, ◌≤◌, ◌<◌};
+ghost use Rattle.std.specs.Prelude.{◌≡◌, [], ◌∷◌, map, ◌+◌, ◌*◌, ◌≤◌, ◌<◌, length};
 ghost use Rattle.std.proofs.lemmas.List.Edits.{sets};
 ghost use Rattle.rules.specs.Tapes.{last_out, clause_bytes, read_tape};
-ghost use Rattle.merge_rules.specs.Merging.{raised as raisedBy, minimum_of, merged_bytes};
+ghost use Rattle.merge_rules.specs.Merging.{raised as raised_by, minimum_of, merged_bytes};
 ghost use Rattle.merge.specs.Copies.{Counted, Copyable, Writable};
 
 use crate::raise::raised;
@@ -15,7 +15,7 @@ use tape_check::Checked;
 fn copy_clauses(tape: &[u8], count: u32, by: u32, out: &mut [u8], at: usize)
     requires { Copyable tape.now count by at out.old }
     ensures { out.new
-        ≡ sets out.old at (clause_bytes (map (raisedBy by) (read_tape tape.now).tape.clauses)) }
+        ≡ sets out.old at (clause_bytes (map (raised_by by) (read_tape tape.now).tape.clauses)) }
 {
     let mut i: u32 = 0;
     while i < count {
@@ -34,7 +34,7 @@ fn result_slot(tape: &[u8], count: u32) -> u32
 }
 
 fn put_minimum(out: &mut [u8], at: usize, first: u32, second: u32)
-    requires* at_bound { do ⌜ at + 10 ≤ (← ⟦out.len()⟧) ⌝ }
+    requires at_bound { at + 10 ≤ length out.old }
     requires first_bound { (first < 256) × (second < 256) }
     ensures { out.new ≡ sets out.old at (clause_bytes (minimum_of first second ∷ [])) }
 {

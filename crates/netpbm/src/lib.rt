@@ -1,4 +1,6 @@
 // The Netpbm files made of pictures.
+#![tactic(auto)]
+
 pub mod append;
 pub mod call;
 pub mod decimal;

@@ -5,7 +5,6 @@ use mathlib.Core.List.{List}
 use Prim.Native.Nat.{ℕ}
 use lib.ListN.{length, take, replicate}
 use Rattle.rules.specs.Tapes.{read_tape, clause_limit}
-use Rattle.rules.specs.Drawings as D
 use Rattle.rules.specs.Pictures.{picture}
 use Rattle.order_rules.specs.Orders.{walked_in, order_lines}
 use Rattle.order_rules.proofs.OrderCalls.{order_clear}

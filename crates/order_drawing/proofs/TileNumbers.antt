@@ -50,9 +50,9 @@ module _ (grid : Grid) (e : grid_fault true (grid_in grid true) ≡ 0) where
   parts : (w : ℕ) → parts_in 0 w 64 ≡ across w
   parts w = ap (λ v. v / 64) (omega arith)
 
-  pub tile_count : tile_count (grid_in grid true)
+  pub tile_count_lem : tile_count (grid_in grid true)
       ≡ across grid.depth * (across grid.height * across grid.width)
-  tile_count =
+  tile_count_lem =
       ap length (tiles_in_lem all_cell e)
       ∙ child_length (parent all_cell e)
       ∙ rw (parts grid.width, parts grid.height, parts grid.depth)
@@ -60,10 +60,10 @@ module _ (grid : Grid) (e : grid_fault true (grid_in grid true) ≡ 0) where
   from_zero : (a b c : ℕ) → region (0 + a) (0 + b) (0 + c) 64 ≡ region a b c 64
   from_zero a b c = rw (zero-add a, zero-add b, zero-add c)
 
-  pub tile_numbered : (m : ℕ) → m < tile_count (grid_in grid true)
+  pub tile_numbered_lem : (m : ℕ) → m < tile_count (grid_in grid true)
       → get_or (tiles (grid_in grid true)) m whole ≡ tile_at (grid_in grid true) m
   unfolding tile_at
-  tile_numbered m h =
+  tile_numbered_lem m h =
       let l : m < length (children_in all 64) = omega (arith, ap length (tiles_in_lem all_cell e)) in
       let nx = across grid.width in
       let ny = across grid.height in

@@ -1,5 +1,7 @@
 // The solid drawing by tiles in an order of the caller's own: the checks, and then the walk of the tape's words, in arrays
 // of the call's own that are as long as any tape needs.
+#![tactic(auto)]
+
 mod list;
 mod tiles;
 

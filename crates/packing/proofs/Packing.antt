@@ -97,8 +97,8 @@ bytes_cons c cs = refl
 module _ (b : List ℕ) (n i : ℕ) (zs : List ℤ) (o : List ℕ)
     (w : Written clause_bytes b n i (8 + 10 * i) (raws_of (drop (5 * i) zs)) o) where
   module _ (r : Raw) (e : raws_of (drop (5 * i) zs) ≡ r ∷ raws_of (drop (5 * i + 5) zs)) where
-    pub clause_bytes : n ≤ slot_limit → InBytes r
-    clause_bytes h =
+    pub clause_bytes_lem : n ≤ slot_limit → InBytes r
+    clause_bytes_lem h =
         in_bytes n _ r (omega arith)
         (clause_passed clause_bytes b n (written_to clause_bytes b n {i = i} {a = 8 + 10 * i} refl refl e w))
 

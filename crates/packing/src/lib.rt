@@ -1,4 +1,6 @@
 // Packing a list into a tape's bytes and unpacking it again. A refused call writes nothing, a done one every element.
+#![tactic(auto)]
+
 pub mod call;
 
 ghost use Rattle.std.specs.Prelude.{◌≡◌, true};
@@ -14,7 +16,7 @@ use tape_check::{check_list, check_tape};
 const WRONG_LENGTH: u8 = 14;
 
 // What packing and unpacking answer: 0 and the slot count, or the number of the refusal and its clause.
-#[derive(Drop)]
+#[derive(Clone, Copy)]
 pub struct Packed {
     pub number: u8,
     pub place: u32,

@@ -1,8 +1,8 @@
 -- Bytes set one by one, and a part row by row.
-use mathlib.Core.Path.{◌≡◌, refl, sym, ap, ap₂, ◌∙◌}
+use mathlib.Core.Path.{◌≡◌, refl, sym, ap, ◌∙◌}
 use mathlib.Core.Bool.{Bool, true, false}
 use mathlib.Core.List.{List}
-use Prim.Native.Nat.{ℕ, suc, ◌+◌, ◌-◌, ◌*◌, ◌/◌, ◌%◌, ◌<◌, ◌≤◌}
+use Prim.Native.Nat.{ℕ, ◌+◌, ◌-◌, ◌*◌, ◌/◌, ◌%◌, ◌<◌, ◌≤◌}
 use native.Mathlib.Nat.{mul-le-mul_right}
 use native.Mathlib.Omega.{arith}
 use lib.Bits.{bit_or}
@@ -12,7 +12,7 @@ use lib.Seq.{get_or-set_same, get_or-set_other}
 use borrow.Author.Tests.{ltb-true, ltb-false}
 use Rattle.rules.specs.Pictures.{stride}
 use Rattle.picture.specs.Bits.{Within}
-use Rattle.picture.specs.Parts.{KeptOutside, ByteIn, Apart}
+use Rattle.picture.specs.Parts.{ByteIn}
 use Rattle.picture.proofs.PartLaws.{kept_none, kept_more, row_apart, apart_none, rows_apart}
 use Rattle.patches.specs.Patches.{joined, BytesSet, PartSet}
 

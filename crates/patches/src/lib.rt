@@ -1,5 +1,7 @@
 // Parts of a flat picture by their bytes: cleared, copied from another picture of the same size, or joined with it bit by
 // bit. A part is a rectangle of pixels whose first column begins a byte; every byte outside it stays as it is.
+#![tactic(auto)]
+
 ghost use Rattle.std.specs.Prelude.{◌≡◌, ◌≤◌, length};
 ghost use Rattle.picture.specs.Bits.{Within};
 ghost use Rattle.patches.specs.Patches.{nothing, bytes_in, joined, BytesSet, PartSet};

@@ -16,3 +16,10 @@ refused r e n = sym e ∙ not-true r n
 
 pub passed : {a : Bool} (r : Bool) → r ≡ a → not r ≡ false → a ≡ true
 passed r e n = sym e ∙ not-false r n
+
+-- The same where the test is of the call itself.
+pub refused_by : {a : Bool} (r : Bool) → r ≡ a → r ≡ false → a ≡ false
+refused_by r e n = sym e ∙ n
+
+pub passed_by : {a : Bool} (r : Bool) → r ≡ a → r ≡ true → a ≡ true
+passed_by r e n = sym e ∙ n

@@ -51,9 +51,9 @@ solid_axis false o s n b e h = absurd (true≢false e)
 
 -- The first fault, by the two tests.
 module _ (t : Bool) (g : Grid) where
-  pub size_fault : sizes_ok t g ≡ false → 10 ≡ grid_fault t g
+  pub size_fault_lem : sizes_ok t g ≡ false → 10 ≡ grid_fault t g
   unfolding grid_fault
-  size_fault e = rw e
+  size_fault_lem e = rw e
 
   pub axis_fault : sizes_ok t g ≡ true → axes_ok t g ≡ false → 11 ≡ grid_fault t g
   unfolding grid_fault

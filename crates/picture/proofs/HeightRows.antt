@@ -143,13 +143,13 @@ module _ {left width from count : ℕ} {whole : Bool} (z : ℕ) (h : List ℕ)
       let e : 0 ≡ left = omega arith in
       ap (λ n. rows_high n width from count z h) e ∙ d.same
 
-  high_first : 0 < left → (row_high count from z h && rows_high (left - 1) width (from + width) count z h) ≡ whole
+  high_first_lem : 0 < left → (row_high count from z h && rows_high (left - 1) width (from + width) count z h) ≡ whole
   unfolding rows_high
-  high_first l = sym (ap (λ n. rows_high n width from count z h) (first_row left l)) ∙ d.same
+  high_first_lem l = sym (ap (λ n. rows_high n width from count z h) (first_row left l)) ∙ d.same
 
   pub high_rows_next : 0 < left → row_high count from z h ≡ true
       → Down (left - 1) width (from + width) count (length h) (rows_high (left - 1) width (from + width) count z h) whole
-  high_rows_next l e = record { fit = rest_fit d.fit l; same = rw e at (high_first l) }
+  high_rows_next l e = record { fit = rest_fit d.fit l; same = rw e at (high_first_lem l) }
 
   pub low_rows_end : 0 < left → row_high count from z h ≡ false → false ≡ whole
-  low_rows_end l e = rw e at (high_first l)
+  low_rows_end l e = rw e at (high_first_lem l)

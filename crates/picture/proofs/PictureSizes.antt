@@ -1,7 +1,7 @@
 -- The length of a picture, of each kind.
 use mathlib.Core.Path.{◌≡◌}
 use mathlib.Core.Bool.{Bool, true, false}
-use Prim.Native.Nat.{ℕ, ◌*◌}
+use Prim.Native.Nat.{◌*◌}
 use Rattle.rules.specs.Drawings as D
 use Rattle.rules.specs.Pictures.{stride, picture_size}
 

@@ -12,7 +12,7 @@ const TOP: i64 = 2147483647;
 
 // A grid. A flat drawing reads neither depth nor the third step; its one z is zorigin.
 #[repr(C)]
-#[derive(Drop)]
+#[derive(Clone, Copy)]
 pub struct Grid {
     pub width: u32,
     pub height: u32,

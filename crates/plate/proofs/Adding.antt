@@ -37,11 +37,11 @@ module _ (p : ℕ) (s : List ℕ) (grid : Grid) (m o w : List ℕ) where
   abbrev adding : Call
   adding = add p s (grid_in grid false) (length w)
 
-  pub add_lines : MemoryLines adding (plate m o)
+  pub add_lines_lem : MemoryLines adding (plate m o)
   unfolding fault_of fault_clause
-  add_lines =
+  add_lines_lem =
       let k = add_order p s (grid_in grid false) (plate m o) (length w) in
-      record { length_line = k.memory; places_line = k.places; clause = clause_of_place s (plate m o) }
+      record { length_line_lem = k.memory; places_line = k.places; clause = clause_of_place s (plate m o) }
 
   module _ (size : length m ≡ plate_size) (clear : (places_fault (places_of m)).number ≡ 0) {f : ℕ}
       (line : f ≡ when (not (is_free p m)) 22) where

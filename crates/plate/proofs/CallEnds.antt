@@ -90,7 +90,7 @@ nowhere n e = no_figure (leb 5 n && leb n 9) ∙ ap (place_of n) (sym e)
 
 -- The lines of the memory, of either call.
 pub record MemoryLines (c : Call) (q : Plate) : Type 0 where
-  pub length_line : (length q.memory ≡ plate_size → ⊥) → fault_of c q ≡ 14
+  pub length_line_lem : (length q.memory ≡ plate_size → ⊥) → fault_of c q ≡ 14
   pub places_line : length q.memory ≡ plate_size → ((bad_place q).number ≡ 0 → ⊥) → fault_of c q ≡ (bad_place q).number
   pub clause : ((bad_place q).number ≡ 0 → ⊥) → fault_clause c q ≡ (bad_place q).place
 
@@ -108,7 +108,7 @@ module _ (m o w : List ℕ) {r : Answer} (k : MemoryChecked m r) where
           (all_placed (places_of m) ∙ ap (place_of b.number) (sym (l.clause z))) f
       go false e =
           let h = eqb-false (length m) plate_size e in
-          call_refused c m o w 14 0 (l.length_line h) (λ i. omega (arith, i)) refl (k.wrong h)
+          call_refused c m o w 14 0 (l.length_line_lem h) (λ i. omega (arith, i)) refl (k.wrong h)
 
   pub memory_size : r.number ≡ 0 → length m ≡ plate_size
   memory_size z = go (eqb (length m) plate_size) refl

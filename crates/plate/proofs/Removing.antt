@@ -38,11 +38,11 @@ module _ (p : ℕ) (grid : Grid) (m o w : List ℕ) where
   abbrev removing : Call
   removing = remove p (grid_in grid false) (length w)
 
-  pub remove_lines : MemoryLines removing (plate m o)
+  pub remove_lines_lem : MemoryLines removing (plate m o)
   unfolding fault_of fault_clause remove_clause
-  remove_lines =
+  remove_lines_lem =
       let k = remove_order p (grid_in grid false) (plate m o) (length w) in
-      record { length_line = k.memory; places_line = k.places; clause = λ n. refl }
+      record { length_line_lem = k.memory; places_line = k.places; clause = λ n. refl }
 
   module _ (size : length m ≡ plate_size) (clear : (places_fault (places_of m)).number ≡ 0) {f : ℕ}
       (line : f ≡ when (not (is_taken p m)) 22) where

@@ -1,4 +1,6 @@
 // Parts come and go on the plate: the checks, the tiles that the part touches drawn afresh, and last the memory.
+#![tactic(auto)]
+
 ghost use Rattle.std.specs.Prelude.{◌≡◌, false};
 ghost use Rattle.picture.specs.Shapes.{grid_in};
 ghost use Rattle.plate_rules.specs.Plate.{place_at, tape_in, part_in, afresh, redrawn, stored, zeros};

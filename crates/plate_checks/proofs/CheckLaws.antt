@@ -1,5 +1,5 @@
 -- Line 22, by its tests; and the memory's length.
-use mathlib.Core.Path.{◌≡◌, sym, ap, ◌∙◌}
+use mathlib.Core.Path.{◌≡◌, sym, ◌∙◌}
 use mathlib.Core.Bool.{true, false, not}
 use mathlib.Core.List.{List}
 use Prim.Native.Nat.{ℕ, ◌<◌, ◌≤◌}
@@ -7,7 +7,7 @@ use lib.ListN.{length}
 use borrow.Author.Tests.{lt-ltb, le-ltb}
 use Rattle.rules.specs.Values.{when}
 use Rattle.answers.specs.declared.Answer.{Answer}
-use Rattle.plate_rules.specs.Plate.{places, plate_size, places_of, places_fault, place_at, all_zero, is_free, is_taken}
+use Rattle.plate_rules.specs.Plate.{places, places_of, places_fault, place_at, all_zero, is_free, is_taken}
 use Rattle.plate_rules.proofs.Places.{plate_size_lem}
 use Rattle.plate_places.specs.Places.{fault_answer}
 use Rattle.plate_checks.specs.Checks.{MemoryChecked}

@@ -1,4 +1,6 @@
 // The lines of the plate's calls besides the tape's: 14 and the places, 22, and 10 to 13.
+#![tactic(auto)]
+
 ghost use Rattle.std.specs.Prelude.{◌≡◌, false, not, ◌<◌, length};
 ghost use Rattle.rules.specs.Values.{when};
 ghost use Rattle.picture.specs.Shapes.{grid_in};

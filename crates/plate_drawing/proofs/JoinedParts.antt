@@ -2,7 +2,7 @@
 use mathlib.Core.Path.{◌≡◌, refl, sym, ap, ap₂, subst, ◌∙◌}
 use mathlib.Core.Bool.{Bool, true, false}
 use mathlib.Core.List.{List, [], ◌∷◌, ◌++◌}
-use Prim.Native.Nat.{ℕ, suc, ◌+◌, ◌-◌, ◌*◌, ◌<◌, ◌≤◌, max}
+use Prim.Native.Nat.{ℕ, ◌+◌, ◌-◌, ◌*◌, ◌<◌, ◌≤◌, max}
 use native.Mathlib.Nat.{mul-le-mul_right}
 use native.Mathlib.Omega.{arith}
 use native.Mathlib.Numerals.{add-one}
@@ -24,7 +24,7 @@ use Rattle.answers.specs.Lines.{Draws}
 use Rattle.drawings.proofs.TapeWords.{words_accepted, words_tape}
 use Rattle.walk.specs.Cells.{size_in}
 use Rattle.walk.proofs.Places.{ready_again}
-use Rattle.plate_rules.specs.Plate.{places, place_size, places_from, all_zero, tape_in, part_in, parts_in, greater, union_of}
+use Rattle.plate_rules.specs.Plate.{place_size, places_from, all_zero, part_in, parts_in, greater, union_of}
 use Rattle.plate_rules.specs.Plate.{touched}
 use Rattle.plate_rules.proofs.JoinedBytes.{or_bytes, drawn_flat, union_flat}
 use Rattle.plate_rules.proofs.Parts.{greater_at, height_in, heights, union_first, union_append, taken_accepted}
@@ -33,7 +33,7 @@ use Rattle.plate_rules.proofs.Places.{place_size_lem, places_length, place_part}
 use Rattle.plate_rules.proofs.PlateBytes.{no_bits, bytes_agree}
 use Rattle.plate_places.specs.Places.{TapeEnd}
 use Rattle.patches.specs.Patches.{nothing}
-use Rattle.plate_tiles.specs.Tiles.{Sized, tile_count, tile_numbered, number_of, MarkedBy, Marked, TilesSet}
+use Rattle.plate_tiles.specs.Tiles.{Sized, tile_count, tile_numbered, MarkedBy, Marked, TilesSet}
 use Rattle.plate_tiles.specs.Joins.{with_part}
 use Rattle.plate_tiles.proofs.TileNumbers.{number_below}
 use Rattle.plate_drawing.specs.Afresh.{Show, Kept, Joins, added_heights, Began, Buffers, ForPlace, ForPlaces}
@@ -52,7 +52,7 @@ buffers_again u m clean e f g h k =
       clean = clean;
       room = omega (arith, u.room, f);
       words_in = g ∙ u.words_in;
-      first_in_lem = h ∙ u.first_in_lem;
+      first_in = h ∙ u.first_in;
       second_in = k ∙ u.second_in;
     }
 

@@ -1,13 +1,13 @@
 -- The tiles begun, and the other places joined: the picture drawn afresh where the part touches it.
 use mathlib.Core.Path.{◌≡◌, refl, sym, ap, ap₂, ◌∙◌}
 use mathlib.Core.Bool.{Bool, true, false}
-use mathlib.Core.List.{List, [], ◌∷◌, ◌++◌}
-use Prim.Native.Nat.{ℕ, suc, ◌+◌, ◌-◌, ◌*◌, ◌<◌, ◌≤◌, max}
+use mathlib.Core.List.{List, ◌∷◌, ◌++◌}
+use Prim.Native.Nat.{ℕ, suc, ◌+◌, ◌-◌, ◌*◌, ◌<◌, ◌≤◌}
 use native.Mathlib.Nat.{mul-le-mul_right}
 use native.Mathlib.Omega.{arith}
-use lib.ListN.{length, get_or, take, drop, replicate, length-drop}
+use lib.ListN.{length, get_or, take, drop, replicate}
 use lib.Seq.{length-take-le, take_at, drop_at}
-use Rattle.rules.specs.Values.{pick, when}
+use Rattle.rules.specs.Values.{when}
 use Rattle.rules.specs.Tapes.{Tape, read_tape}
 use Rattle.rules.specs.Drawings as D
 use Rattle.rules.specs.Pictures.{stride, bits_of}
@@ -18,15 +18,15 @@ use Rattle.code.proofs.RunLaws.{take_replicate}
 use Rattle.walk.specs.Cells.{Ready}
 use Rattle.walk.proofs.CellLaws.{small}
 use Rattle.plate_rules.specs.Plate.{places, place_size, plate_size, places_from, places_of, parts_in, union_of, afresh}
-use Rattle.plate_rules.specs.Plate.{greater, redrawn, stored, padded, zeros, touched, tile_of}
+use Rattle.plate_rules.specs.Plate.{greater, redrawn, stored, touched, tile_of}
 use Rattle.plate_rules.proofs.JoinedBytes.{drawn_flat}
 use Rattle.plate_rules.proofs.Parts.{greater_at, height_in, heights, union_first, union_append}
-use Rattle.plate_rules.proofs.Places.{place_size_lem, places_append, zeros_empty}
+use Rattle.plate_rules.proofs.Places.{places_append, zeros_empty}
 use Rattle.plate_rules.proofs.PlateBytes.{bytes_agree}
 use Rattle.plate_rules.proofs.PlateChanges.{zeros_size}
 use Rattle.plate_rules.proofs.Stored.{padded_size, reads_back, stored_taken}
 use Rattle.plate_rules.proofs.WalkTiles.{redrawn_rows}
-use Rattle.plate_tiles.specs.Tiles.{Sized, tile_count, tile_numbered, number_of}
+use Rattle.plate_tiles.specs.Tiles.{Sized, number_of}
 use Rattle.plate_tiles.proofs.TileNumbers.{number_below, numbered_tile}
 use Rattle.plate_drawing.specs.Afresh.{Joins, added_heights, Began, others_of, comes, picture_limit}
 

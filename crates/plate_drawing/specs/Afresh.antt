@@ -34,7 +34,7 @@ pub record Buffers (grid : Grid) (marks blank picture work words first second : 
   pub clean : blank ≡ replicate (size_in false grid) 0
   pub room : D.work_limit ≤ length work
   pub words_in : length words ≡ clause_limit
-  pub first_in_lem : length first ≡ clause_limit
+  pub first_in : length first ≡ clause_limit
   pub second_in : length second ≡ clause_limit
 
 pub record ForPlace (b : List ℕ) : Type 0 where

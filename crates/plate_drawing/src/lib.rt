@@ -1,5 +1,7 @@
 // The tiles of a plate's picture that the changed part touches, drawn afresh from the parts present: the part that comes
 // is joined first, while its words are there, and then those of the other places, each unpacked once.
+#![tactic(auto)]
+
 ghost use Rattle.std.specs.Prelude.{◌≡◌, false, [], ◌∷◌, ℕ, length, replicate};
 ghost use Rattle.rules.specs.Tapes.{read_tape};
 ghost use Rattle.rules.specs.Accepted.{Accepted};

@@ -10,11 +10,11 @@ use lib.ListN.{length, get_or, take, drop, set, replicate, length-drop}
 use lib.Seq.{drop-cons, drop-length, take_all, take-suc, drop-drop, length-take-le, set-append_seam}
 use borrow.Author.Tests.{eq-eqb, ne_eqb, eqb-false}
 use Rattle.rules.specs.Values.{pick}
-use Rattle.rules.specs.Tapes.{Fault, word, read_tape}
+use Rattle.rules.specs.Tapes.{word, read_tape}
 use Rattle.tape_check.specs.Checks.{Answers}
 use Rattle.tape_check.specs.declared.Checked.{Checked}
 use Rattle.answers.specs.declared.Answer.{Answer}
-use Rattle.plate_rules.specs.Plate.{places, place_size, plate_size, places_from, places_of, all_zero, tape_in, no_fault}
+use Rattle.plate_rules.specs.Plate.{places, place_size, plate_size, places_of, all_zero, tape_in, no_fault}
 use Rattle.plate_rules.specs.Plate.{place_fault, places_fault, stored, padded, zeros}
 use Rattle.plate_rules.proofs.Places.{place_size_lem, places_length, place_part, drop_zeros}
 use Rattle.plate_rules.proofs.Refusals.{lowest_at, faultless_more}

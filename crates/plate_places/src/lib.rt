@@ -1,4 +1,6 @@
 // The places of a plate's memory: their checks, the tape in one, and a place that is filled or emptied.
+#![tactic(auto)]
+
 ghost use Rattle.std.specs.Prelude.{◌≡◌, ◌++◌, ◌<◌, ◌≤◌, length, drop};
 ghost use Rattle.plate_rules.specs.Plate.{places, place_size, plate_size, places_of, all_zero, place_fault, places_fault};
 ghost use Rattle.plate_rules.specs.Plate.{stored, padded, zeros};

@@ -2,19 +2,18 @@
 use mathlib.Core.Path.{◌≡◌, refl, sym, ap, subst, ◌∙◌}
 use mathlib.Core.Bool.{Bool, true, false}
 use mathlib.Core.List.{List}
-use Prim.Native.Nat.{ℕ, ◌+◌, ◌*◌, ◌/◌, ◌%◌, ◌<◌, ◌≤◌}
+use Prim.Native.Nat.{ℕ, ◌+◌, ◌*◌, ◌/◌, ◌%◌, ◌<◌}
 use native.Mathlib.Omega.{arith}
 use lib.Bits.{bit_or}
 use lib.Dec.{eqb}
 use lib.ListN.{length, get_or, replicate, length-replicate}
 use lib.Seq.{ext_get_or}
 use borrow.Author.Tests.{eqb-true, eqb-false}
-use Rattle.rules.specs.Tapes.{Tape}
-use Rattle.rules.specs.Drawings.{State, Region, sides, state, visit, drawn}
+use Rattle.rules.specs.Drawings.{State, Region, sides, state, visit}
 use Rattle.rules.specs.Pictures.{stride, bits_of}
 use Rattle.rules.specs.Accepted.{Accepted}
 use Rattle.rules.proofs.Runs.{good_accepted}
-use Rattle.rules.proofs.Grids.{Sound, accepted_sound}
+use Rattle.rules.proofs.Grids.{accepted_sound}
 use Rattle.code.specs.Words.{tape_in}
 use Rattle.picture.specs.Bits.{Shows}
 use Rattle.picture.specs.Parts.{Apart}

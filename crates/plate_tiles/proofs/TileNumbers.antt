@@ -1,12 +1,12 @@
 -- Tiles by their number: in the grid, few, and each byte in the one of its number.
-use mathlib.Core.Path.{◌≡◌, refl, sym, ap, ap₂, ◌∙◌}
-use mathlib.Core.Bool.{Bool, true, false}
+use mathlib.Core.Path.{◌≡◌, sym, ap, ap₂, ◌∙◌}
+use mathlib.Core.Bool.{false}
 use mathlib.Core.List.{List}
-use Prim.Native.Nat.{ℕ, suc, ◌+◌, ◌*◌, ◌/◌, ◌%◌, ◌<◌, ◌≤◌}
+use Prim.Native.Nat.{ℕ, ◌+◌, ◌*◌, ◌/◌, ◌%◌, ◌<◌, ◌≤◌}
 use native.Mathlib.Nat.{div-add-mod', mod-lt, div-lt_iff_lt-mul, mul-le-mul}
 use native.Mathlib.Omega.{arith}
 use lib.Arith.{digits_lt, digits_div, digits_mod}
-use Rattle.rules.specs.Drawings.{Region, region, lesser}
+use Rattle.rules.specs.Drawings.{Region, region}
 use Rattle.rules.specs.Pictures.{stride}
 use Rattle.rules.proofs.Regions.{lesser_both}
 use Rattle.picture.specs.Bits.{Within}

@@ -1,15 +1,13 @@
 -- The call: its lines, the sample that is run, and the answer by the side of the value.
-use Rattle.std.proofs.Common.{◌≡◌, ℕ, zero, suc, Bool, true, false, not, ◌&&◌, List, take, ℤ, pos, negsuc, sym, refl, ap, ◌∙◌, subst, true≢false, arith, ltb-false, ltb-true, eq-eqb, ne_eqb}
+use Rattle.std.proofs.Common.{◌≡◌, ℕ, zero, suc, Bool, true, false, ◌&&◌, List, take, ℤ, pos, negsuc, sym, refl, ap, ◌∙◌, subst, true≢false, arith, ltb-false, ltb-true, eq-eqb, ne_eqb}
 use mathlib.Core.Bool.{false≢true}
 use lib.Signed.{lt_z}
 use lib.Ieee.{Float}
-use borrow.Author.Tests.{not-false}
 use Rattle.rules.specs.Values.{first_of, Sample}
 use Rattle.rules.specs.Tapes.{read_tape, place_of, value_at}
 use Rattle.rules.specs.Probes.{Point, coordinate_ok, point_fault, rounded_point, probe_lines, probe_fault, probed_value}
 use Rattle.rules.specs.Probes.{rounded_down, stored_float}
-use Rattle.rules.proofs.Tests.{and_left, and_right, last_off}
-use Rattle.rules.proofs.Lines.{first_none, each_line}
+use Rattle.rules.proofs.Lines.{first_none}
 use Rattle.rules.proofs.Places.{tape_placed}
 use Rattle.rules.proofs.Probes.{rounded_value}
 use Rattle.code.specs.Words.{Runnable}

@@ -3,7 +3,7 @@ use Rattle.std.proofs.Common.{◌≡◌, ℕ, zero, suc, ◌+◌, ◌-◌, ◌*�
 use lib.IntN.{ -ℤ_one}
 use native.Mathlib.Nat.{div-le_of_le-mul, lt-div-mul-add}
 use native.Mathlib.Nat.{mul-mul-mul_comm}
-use lib.Ieee.{Float, fin, binary64, up, down, below, lt, le, of_int, to_signed, in_float}
+use lib.Ieee.{Float, nan, inf, fin, binary64, up, down, below, lt, le, of_int, to_signed, in_float}
 use lib.Ieee.Fits.{down_pos}
 use lib.Ieee.Exact.{HasValue}
 use lib.Ieee.Nearest.{div_same}
@@ -35,6 +35,10 @@ below_scaled true a true b k h = scaled b a k h
 pub compared : (x y : Float) (s t : Bool) (a c b d : ℕ) → 0 < c → 0 < d → HasValue x s a c → HasValue y t b d
     → lt x y ≡ below s (a * d) t (b * c)
 unfolding lt
+compared nan _ s t a c b d h k x y = elim x [ ]
+compared (inf _) _ s t a c b d h k x y = elim x [ ]
+compared (fin u m e) nan s t a c b d h k x y = elim y [ ]
+compared (fin u m e) (inf _) s t a c b d h k x y = elim y [ ]
 compared (fin u m e) (fin v n g) s t a c b d h k x y =
     let l = down e * down g in
     let left : m * up e * down g * (c * d) ≡ a * d * l
@@ -54,6 +58,8 @@ compared (fin u m e) (fin v n g) s t a c b d h k x y =
 cut : (x : Float) (s : Bool) (n d : ℕ) → 0 < d → n ≤ 2147418112 * d → HasValue x s n d
     → to_signed 63 x ≡ signed s (n / d)
 unfolding to_signed
+cut nan s n d h k v = elim v [ ]
+cut (inf _) s n d h k v = elim v [ ]
 cut (fin u m e) s n d h k v =
     let q = n / d in
     let same : m * up e / down e ≡ q = div_same (m * up e) (down e) n d (down_pos e) h v.1 in

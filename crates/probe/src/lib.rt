@@ -1,4 +1,6 @@
 // The formula at a point: lines 1 to 9 and 20, then the full tape's value at the rounded point.
+#![tactic(auto)]
+
 pub mod call;
 mod point;
 mod side;
@@ -21,7 +23,7 @@ use tape::{CLAUSE_LIMIT, SLOT_LIMIT};
 use tape_check::check_tape;
 
 // What a probe answers: 0 and the side, or the number of the refusal and its clause.
-#[derive(Drop)]
+#[derive(Clone, Copy)]
 pub struct Finding {
     pub number: u8,
     pub place: u32,

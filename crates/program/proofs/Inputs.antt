@@ -84,9 +84,9 @@ module _ (s o o' : List ℕ) (d : Grid) (r : Drawn) (e : grid_in d true ≡ grid
   small : too_large (grid_record s) ≡ false
   small = ap too_large (sym e) ∙ b
 
-  pub flat_input : d.depth < 1 → FileSays false (take (length s - record_length) (drop record_length s)) d o o' r
+  pub flat_input_lem : d.depth < 1 → FileSays false (take (length s - record_length) (drop record_length s)) d o o' r
       → InputSays s o o' r
-  flat_input h f =
+  flat_input_lem h f =
       drawing s o o' false d r (without_depth d h ∙ e) (sym (ap D.solid (sym e) ∙ lt-leb 1 d.depth h)) a small
       (subst (λ t. FileSays false t d o o' r) (tape_behind s) f)
 

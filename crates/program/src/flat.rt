@@ -1,5 +1,5 @@
 // The file of a flat drawing.
-ghost use Rattle.std.specs.Prelude.{◌≡◌, false};
+ghost use Rattle.std.specs.Prelude.{◌≡◌, false, length};
 ghost use Rattle.program.specs.Says.{output_length, PictureFits, FileSays};
 
 use crate::Drawn;
@@ -21,7 +21,7 @@ fn picture_length(grid: Grid) -> usize
 }
 
 pub fn flat_file(tape: &[u8], grid: Grid, out: &mut [u8]) -> Drawn
-    requires* { do ⌜ (← ⟦out.len()⟧) ≡ output_length ⌝ }
+    requires { length out.old ≡ output_length }
     ensures { FileSays false tape.now grid out.old out.new result }
 {
     let mut picture = zero_bytes();

@@ -1,4 +1,6 @@
 // The program's decision, on bytes alone: an input in, and what goes to descriptors 1 and 2 out.
+#![tactic(auto)]
+
 mod buffers;
 mod flat;
 mod layer;
@@ -24,14 +26,14 @@ pub const OUTPUT: usize = 32785;
 pub const LINE: usize = 21;
 
 // The answer of the drawing, and the length of the file, 0 if it is refused.
-#[derive(Drop)]
+#[derive(Clone, Copy)]
 pub struct Drawn {
     pub answer: Answer,
     pub length: usize,
 }
 
 // The same answer, with the lengths of what goes to descriptor 1, file or refusal, and to descriptor 2.
-#[derive(Drop)]
+#[derive(Clone, Copy)]
 pub struct Said {
     pub answer: Answer,
     pub length: usize,

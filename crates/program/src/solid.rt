@@ -1,5 +1,5 @@
 // The file of a solid drawing, of at most 128 by 128 pixels.
-ghost use Rattle.std.specs.Prelude.{◌≡◌, true, ◌≤◌};
+ghost use Rattle.std.specs.Prelude.{◌≡◌, true, ◌≤◌, length};
 ghost use Rattle.program_rules.specs.Program.{solid_limit};
 ghost use Rattle.program.specs.Says.{output_length, PictureFits, FileSays};
 
@@ -21,7 +21,7 @@ fn picture_length(grid: Grid) -> usize
 pub fn solid_file(tape: &[u8], grid: Grid, out: &mut [u8]) -> Drawn
     requires width_le_solid_limit { grid.width ≤ solid_limit }
     requires height_le_solid_limit { grid.height ≤ solid_limit }
-    requires* do_value { do ⌜ (← ⟦out.len()⟧) ≡ output_length ⌝ }
+    requires out_len { length out.old ≡ output_length }
     ensures { FileSays true tape.now grid out.old out.new result }
 {
     let mut picture = zero_heights();

@@ -15,7 +15,7 @@ use Rattle.rules.specs.Values.{value_of, sum_range, difference_range, product_ra
 use Rattle.rules.specs.Values.{smaller_range, larger_range, unary_range, multiplied_range, binary_range, range_of, side_below}
 use Rattle.rules.specs.Values.{side_above}
 use Rattle.rules.specs.Values.{choice_of}
-use Rattle.rules.specs.Tapes.{clause_limit, Got, bad, word, two, four, run_from, value_at, material, range_from}
+use Rattle.rules.specs.Tapes.{clause_limit, Got, bad, word, run_from, value_at, material, range_from}
 use Rattle.rules.specs.Tapes.{range_over, choices_from, reads, is_in, without, on_clause, short_from, last_out}
 use Rattle.rules.specs.Tapes.{shortened, bad_slot, bad_unused, bad_constant, bad_read, clause_fault, fault_from}
 use Rattle.rules.specs.Tapes.{read_clauses, counts_ok, head_counts, edition, signed4, raw_in, raws_from, head_ok, read_tape}

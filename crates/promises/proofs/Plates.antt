@@ -7,8 +7,8 @@ use native.Mathlib.Omega.{arith}
 use lib.Dec.{eqb, ltb}
 use lib.ListN.{length, get_or, take, drop, length-take, length-drop, take-append-drop}
 use lib.Seq.{take_all}
-use borrow.Author.Tests.{eqb-true, eqb-false, eq-eqb, ne_eqb, lt-ltb, le-ltb}
-use Rattle.rules.specs.Values.{pick, when}
+use borrow.Author.Tests.{eqb-true, eqb-false, ne_eqb, lt-ltb, le-ltb}
+use Rattle.rules.specs.Values.{pick}
 use Rattle.rules.specs.Drawings as D
 use Rattle.rules.specs.Pictures.{stride, byte_of, bits_of, picture_size}
 use Rattle.rules.proofs.Lines.{each_line}
@@ -17,7 +17,7 @@ use Rattle.picture.specs.Bits.{bit}
 use Rattle.picture.specs.Shapes.{grid_in}
 use Rattle.picture.specs.declared.grid.Grid.{Grid}
 use Rattle.answers.specs.declared.Answer.{Answer}
-use Rattle.plate_rules.specs.Plate.{Plate, plate_size, places_of, parts_in, union_of, afresh, any_has, add_fault, remove_fault}
+use Rattle.plate_rules.specs.Plate.{Plate, plate_size, places_of, parts_in, union_of, afresh, add_fault, remove_fault}
 use Rattle.plate_rules.specs.Plate.{add_lines, remove_lines}
 use Rattle.plate_rules.specs.Runs.{flat_grid, SameFlat, Call, add, remove, grid_of, fault_of, Step, Right, cleared}
 use Rattle.plate_rules.proofs.FlatGrids.{same_flatly}

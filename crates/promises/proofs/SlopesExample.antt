@@ -1,7 +1,6 @@
 -- That no hypothesis about a drawing with slopes is empty: a call with the worked example's tape on its solid, what the
 -- theorem says of it, and which region set a height, by computation.
 use mathlib.Core.Path.{◌≡◌, refl, sym, ap, ◌∙◌}
-use mathlib.Core.Bool.{true}
 use mathlib.Core.Logic.{inl, inr}
 use mathlib.Core.List.{List, [], ◌∷◌, map}
 use lib.IntN.{ℤ, pos}
@@ -53,7 +52,7 @@ done = record { number = 0; place = 0; count = 146 }
 -- No line refuses buffers of the right lengths, whatever they hold.
 not_refused : (n m k : ℕ) → n ≡ 12 → m ≡ 36 → k ≡ 32768 → slopes_fault E.ten_bytes E.ten_solid n m k ≡ 0
 unfolding picture_size
-not_refused n m k a b c = rw (a, b, c, (E.computed).ten_solid.tape, (E.computed).ten_solid.grid) refl
+not_refused n m k a b c = rw (a, b, c, (E.computed).ten_solid_lem.tape, (E.computed).ten_solid_lem.grid) refl
 
 pub said : (o : List ℕ) (p : List ℤ) (w : List ℕ) → length o ≡ 12 → length p ≡ 36 → length w ≡ 32768
     → SlopesSay E.ten_bytes solid_lent o heights p slopes w (replicate 32768 0) done
@@ -61,7 +60,7 @@ unfolding picture
 said o p w a b c =
     let z = not_refused (length o) (length p) (length w) a b c in
     record {
-      answer = record { number = sym z; place = rw z refl; count = rw z (sym (E.computed).ten_solid.counted) };
+      answer = record { number = sym z; place = rw z refl; count = rw z (sym (E.computed).ten_solid_lem.counted) };
       pixels = rw z refl;
       slopes = rw z refl;
       work = rw (z, c) refl;

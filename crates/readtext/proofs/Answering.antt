@@ -10,7 +10,7 @@ use lib.Dec.{eqb, leb}
 use lib.ListN.{length, drop, length-append}
 use borrow.Author.Tests.{eq-eqb, ne_eqb, leb-true, lt-ltb, le-ltb}
 use Rattle.rules.specs.Values.{pick}
-use Rattle.rules.specs.Tapes.{Tape, word, place_of, tape_bytes}
+use Rattle.rules.specs.Tapes.{Tape, word, tape_bytes}
 use Rattle.program_rules.specs.Program.{count_line, refused_line}
 use Rattle.rules.proofs.Tests.{and_left}
 use Rattle.netpbm.specs.Appending.{Appends}

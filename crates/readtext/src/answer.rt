@@ -14,7 +14,7 @@ pub const TAPE: usize = 10248;
 const TEXT: usize = 65535;
 
 // The lengths of what goes to descriptors 1 and 2.
-#[derive(Drop)]
+#[derive(Clone, Copy)]
 pub struct Lengths {
     pub first: usize,
     pub second: usize,

@@ -1,10 +1,12 @@
-// Reading standard input by the kit's read itself: io::read_full takes a read that fails for the end.
+// Reading the input by single reads: io::read_full takes a read that fails for the end.
 ghost use Rattle.std.specs.Prelude.{◌≡◌};
 ghost use Rattle.io.specs.Counts.{IsPrefixLen};
 ghost use Rattle.readtext.specs.Says.{failed};
 
+use std::io::Read;
+
 // How many bytes were read, and whether the input ended behind them.
-#[derive(Drop)]
+#[derive(Clone, Copy)]
 pub struct Input {
     pub size: usize,
     pub whole: bool,
@@ -17,13 +19,21 @@ fn has_failed(got: isize) -> bool
     got < 0
 }
 
+// One read: how many bytes it has read, 0 at the end of the input, and -1 where it fails.
+fn read_some<R: Read>(from: &mut R, room: &mut [u8]) -> isize {
+    match from.read(room) {
+        Ok(more) => more as isize,
+        Err(_) => -1,
+    }
+}
+
 // Reads until the input ends, a read fails or there is no more room.
-pub fn read_input(text: &mut [u8]) -> Input
+pub fn read_input<R: Read>(from: &mut R, text: &mut [u8]) -> Input
     ensures { IsPrefixLen result.size text.new }
 {
     let mut size = 0;
     while size < text.len() {
-        let got = libc::read(0, &mut text[size..]);
+        let got = read_some(from, &mut text[size..]);
         let more = io::count(got, &text[size..]);
         if more == 0 {
             return Input {

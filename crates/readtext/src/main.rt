@@ -1,6 +1,8 @@
 // The program: a formula's text on standard input, its tape on standard output, or the refusal as a line; and on
 // descriptor 2 the length of that. The length comes last, and only behind the whole: who reads it knows that nothing was
 // cut. Nothing is written if the text could not be read to its end.
+#![tactic(auto)]
+
 mod answer;
 mod input;
 
@@ -8,9 +10,9 @@ use answer::{TAPE, answer};
 use input::read_input;
 use program::LINE;
 
-fn main() {
+fn main(rt: HostRuntime) {
     let mut text = io::large_buffer();
-    let read = read_input(&mut text);
+    let read = read_input(&mut rt.stdin(), &mut text);
     let mut out = [0u8; TAPE];
     let mut line = [0u8; LINE];
     let said = answer(&text[..read.size], read.whole, &mut out, &mut line);

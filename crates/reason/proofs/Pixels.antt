@@ -43,8 +43,8 @@ module _ {grid : Grid} {i j : ℕ} (p : Pixel grid i j) where
   pub column_value : IsValue (at grid.xorigin grid.xstep i)
   column_value = taken.x_value i p.column
 
-  pub row_value : IsValue (at grid.yorigin grid.ystep j)
-  row_value = taken.y_value j p.row
+  pub row_value_lem : IsValue (at grid.yorigin grid.ystep j)
+  row_value_lem = taken.y_value j p.row
 
   pub sample_is : {x y z : ℤ} → x ≡ at grid.xorigin grid.xstep i → y ≡ at grid.yorigin grid.ystep j
       → z ≡ grid.zorigin
@@ -56,4 +56,4 @@ module _ {grid : Grid} {i j : ℕ} (p : Pixel grid i j) where
   unfolding sample_at
   sample_taken e =
       rw e
-      (record { x = column_value; y = row_value; z = taken.flat_z })
+      (record { x = column_value; y = row_value_lem; z = taken.flat_z })

@@ -1,5 +1,7 @@
 // The reason for a pixel of a flat picture: the checks, and then the walk's way down to the pixel, in arrays of the call's
 // own that are as long as any tape needs.
+#![tactic(auto)]
+
 mod lines;
 pub mod stop;
 

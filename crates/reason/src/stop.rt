@@ -17,7 +17,7 @@ use walk::judge::{Judgement, Outcome, judge};
 
 // The side of the region, as it is before the grid's edge cuts it off; both ends of the range there or the value twice;
 // and the number of clauses that were run.
-#[derive(Drop)]
+#[derive(Clone, Copy)]
 pub struct Stop {
     pub side: u32,
     pub low: i32,

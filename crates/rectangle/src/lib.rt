@@ -1,10 +1,12 @@
 // A rectangle of whole 64-tiles of a picture, as the calls with a shared table take it.
+#![tactic(auto)]
+
 ghost use Rattle.std.specs.Prelude.{◌≡◌};
 ghost use Rattle.order_rules.specs.Orders.{across};
 
 // Its first column and row of tiles, and how many of both.
 #[repr(C)]
-#[derive(Drop)]
+#[derive(Clone, Copy)]
 pub struct Rectangle {
     pub column: u32,
     pub row: u32,

@@ -1,6 +1,8 @@
 // The roots of eight values side by side, the lanes: for each an estimate in f64 by one division, which is the root or
 // one more, and a step down where its square is above. Every lane does the same, so that the compiler takes several at
 // once.
+#![tactic(auto)]
+
 ghost use Rattle.std.specs.Prelude.{◌≡◌, not, ℕ, ◌<◌, T, pos};
 ghost use Rattle.std.specs.Float.Ieee.{is_nan};
 ghost use Rattle.rules.specs.Values.{root_of};

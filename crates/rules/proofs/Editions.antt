@@ -14,7 +14,7 @@ use Rattle.rules.specs.Tapes.{Got, bad, slot_limit, clause_limit, edition, word}
 use Rattle.rules.specs.Tapes.{counts_ok, head_counts, head_ok, raws_from, read_clauses, read_tape}
 use Rattle.rules.specs.Tapes.{head_bytes, tape_bytes, all_bytes, two, Raw, raw_in, signed4, fault_from, clause_fault}
 use Rattle.rules.specs.Tapes.{is_edition, bad_slot, bad_unused, bad_constant, bad_read}
-use Rattle.rules.proofs.Reading.{tape_accepted, Counts, counts_hold, head_counts_hold}
+use Rattle.rules.proofs.Reading.{tape_accepted, counts_hold, head_counts_hold}
 use Rattle.rules.proofs.Tests.{and_left, and_right}
 use Rattle.rules.proofs.Bytes.{both_ways}
 

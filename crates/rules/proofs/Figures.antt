@@ -12,7 +12,7 @@ use Rattle.rules.specs.Values.{range, Box, holds_zero, absolute_range, square_ra
 use Rattle.rules.specs.Values.{negated_range, smaller_range, larger_range, unary_range, binary_range, range_of, side_below, side_above}
 use Rattle.rules.specs.Values.{multiplied_range, choice_of}
 use Rattle.rules.specs.Tapes.{Tape, no_range, choices_from, reads, is_in, without, on_clause, short_from, last_out}
-use Rattle.rules.specs.Tapes.{range_from, range_over, shortened, list_of, Raw, bad_slot, bad_unused, bad_constant}
+use Rattle.rules.specs.Tapes.{range_from, range_over, shortened, list_of, bad_slot, bad_unused, bad_constant}
 use Rattle.rules.specs.Tapes.{bad_read, clause_fault, fault_from, read_clauses, counts_ok, edition, head_counts}
 use Rattle.rules.specs.Tapes.{signed4, raw_in, raws_from, head_ok, read_tape}
 use Rattle.rules.specs.Marks.{as_marked, kept_by, new_mark, refined, whole_marks, kept_tape, marks_over}

@@ -74,6 +74,8 @@ rounded_value c e = record { bound = omega (arith, rounded_bound c e) }
 -- A value a/c with a sign s, as the kit says it, is that fraction.
 pub value_fraction : (x : Float) (s : Bool) (a c : ℕ) → HasValue x s a c
     → (is_finite x ≡ true) × (over x *ℤ pos c ≡ signed s a *ℤ pos (under x))
+value_fraction nan s a c h = elim h [ ]
+value_fraction (inf _) s a c h = elim h [ ]
 value_fraction (fin t m e) s a c h = (
   refl,
   signed_times t (m * up e) c ∙ ap (signed t) h.1 ∙ ap (λ u. signed u (a * down e)) h.0
@@ -115,6 +117,8 @@ unlike_false false = refl
 divided : (x : Float) (s : Bool) (a : ℕ) → HasValue x s a 1
     → div binary64 x (fin false 1 (pos 16)) ≡ round binary64 s a 65536
 unfolding div
+divided nan s a h = elim h [ ]
+divided (inf _) s a h = elim h [ ]
 divided (fin t m e) s a h =
     let n = m * up e * 1 in
     let d = 65536 * down e in

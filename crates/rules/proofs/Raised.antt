@@ -46,7 +46,7 @@ joined {P} {Q} {R} {h} {m} {h'} a b split left right =
 -- A layer of a set at a place, no lower than z.
 pub record Topped (P : ℕ → ℕ → Type 0) (p z : ℕ) : Type 0 where
   pub layer : ℕ
-  pub is_in : P p layer
+  pub is_in_lem : P p layer
   pub high : z ≤ layer
 
 -- Two sets with the same greatest layers raise alike.
@@ -61,17 +61,17 @@ same_tops {P} {Q} {h} {h'} a f g =
     }
   where
     higher : (p z : ℕ) → p < length h → Topped P p z → z < get_or h' p 0
-    higher p z l t = omega (arith, a.above p t.layer l t.is_in)
+    higher p z l t = omega (arith, a.above p t.layer l t.is_in_lem)
 
     lower : (p z b : ℕ) → ((y : ℕ) → Q p y → y < b) → Topped Q p z → z < b
-    lower p z b k t = omega (arith, k t.layer t.is_in)
+    lower p z b k t = omega (arith, k t.layer t.is_in_lem)
 
 pub same_set : {P Q : ℕ → ℕ → Type 0} {h h' : List ℕ} → Raised P h h'
     → ((p z : ℕ) → P p z → Q p z) → ((p z : ℕ) → Q p z → P p z) → Raised Q h h'
 same_set {P} {Q} a f g = same_tops a (λ p z i. itself (f p z i)) (λ p z i. itself (g p z i))
   where
     itself : {S : ℕ → ℕ → Type 0} {p z : ℕ} → S p z → Topped S p z
-    itself {S} {p} {z} i = record { layer = z; is_in = i; high = omega arith }
+    itself {S} {p} {z} i = record { layer = z; is_in_lem = i; high = omega arith }
 
 -- There is one result.
 pub unique : {P : ℕ → ℕ → Type 0} {h a b : List ℕ} → Raised P h a → Raised P h b → a ≡ b

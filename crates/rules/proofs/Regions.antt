@@ -228,11 +228,11 @@ children_cells g r n l d =
 -- The cut at the grid's edge.
 pub lesser_most : (a b : ℕ) → (lesser a b ≤ a) × (lesser a b ≤ b)
 unfolding lesser
-lesser_most a b = by_test (leb a b) refl
+lesser_most a b = by_test_lem (leb a b) refl
   where
-    by_test : (t : Bool) → leb a b ≡ t → (pick t a b ≤ a) × (pick t a b ≤ b)
-    by_test true e = omega (arith, leb-true a b e)
-    by_test false e = omega (arith, leb-false a b e)
+    by_test_lem : (t : Bool) → leb a b ≡ t → (pick t a b ≤ a) × (pick t a b ≤ b)
+    by_test_lem true e = omega (arith, leb-true a b e)
+    by_test_lem false e = omega (arith, leb-false a b e)
 
 pub lesser_both : (x a b : ℕ) → x < a → x < b → x < lesser a b
 unfolding lesser
@@ -337,11 +337,13 @@ pub data Once (P : Region → Type 0) : List Region → Type 0 where
 
 some_never : (P : Region → Type 0) (qs : List Region) → Each (λ p. P p → ⊥) qs → Some P qs → ⊥
 unfolding Each
+some_never P [] e x = elim x [ ]
 some_never P (q ∷ qs) e (here h) = e.0 h
 some_never P (q ∷ qs) e (there h) = some_never P qs e.1 h
 
 apart_once : (x y z : ℕ) (qs : List Region) → Apart qs → Some (λ q. Inside q x y z) qs → Once (λ q. Inside q x y z) qs
 unfolding Apart
+apart_once x y z [] d h = elim h [ ]
 apart_once x y z (q ∷ qs) d (here h) = first h (each_map (Disjoint q) _ (λ p e k. e.never x y z h k) qs d.0)
 apart_once x y z (q ∷ qs) d (there h) =
     later

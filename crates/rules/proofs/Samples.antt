@@ -79,7 +79,7 @@ full_top {t} {g} {r} f b l p z h =
     let i = pixel_inside q l (past_z g r - 1) low past in
     record {
       layer = past_z g r - 1;
-      is_in = pixel_hit q l (past_z g r - 1) low past (f.all q.x q.y (past_z g r - 1) i.0 i.1);
+      is_in_lem = pixel_hit q l (past_z g r - 1) low past (f.all q.x q.y (past_z g r - 1) i.0 i.1);
       high = omega arith;
     }
 
@@ -87,7 +87,7 @@ pub fill_full : {t : Tape} {g : Grid} {r : Region} → Full t g r → Begins g r
     → Raised (Hit t g r) h (filled g r h)
 fill_full {t} {g} {r} f b l h =
     same_tops (fill_raised g r h) (full_top f b l)
-    (λ p z i. record { layer = z; is_in = hit_pixel i; high = omega arith })
+    (λ p z i. record { layer = z; is_in_lem = hit_pixel i; high = omega arith })
 
 pub skip_empty : {t : Tape} {g : Grid} {r : Region} → Empty t g r → (h : List ℕ) → Raised (Hit t g r) h h
 skip_empty e h =

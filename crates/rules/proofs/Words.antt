@@ -16,7 +16,7 @@ abbrev pub wide : ℤ → ℤ
 wide z = read w64 (read w32 z)
 
 pub read_wide : {z : ℤ} → SFits w32 z → wide z ≡ z
-read_wide f = ap (read w64) (to_z-of_z f) ∙ to_z-of_z (sfits_widen tt f)
+read_wide {z} f = ap (read w64) (to_z-of_z f) ∙ to_z-of_z {w = w64} (sfits_widen {w = w32} {w' = w64} {z = z} tt f)
 
 pub read_fits : {z : ℤ} → SFits w32 z → SFits w64 (read w32 z)
 read_fits {z} f = rw (to_z-of_z {w = w32} {z = z} f) (sfits_widen tt f)

@@ -1,10 +1,9 @@
 -- The loop over the blocks in a block by their number: `while m < end { let cell = child(parent, n, m); .. m += 1; }`.
 -- Each pixel of the block is right, or lies in one that is left.
 use mathlib.Core.Path.{◌≡◌, refl, ap, ◌∙◌}
-use mathlib.Core.Bool.{Bool, true, false}
 use mathlib.Core.List.{List, [], ◌∷◌}
 use mathlib.Core.Logic.{◌⊎◌, inl, inr}
-use Prim.Native.Nat.{ℕ, suc, ◌+◌, ◌*◌, ◌≤◌, ◌<◌}
+use Prim.Native.Nat.{ℕ, ◌+◌, ◌*◌, ◌≤◌, ◌<◌}
 use native.Mathlib.Numerals.{add-one}
 use native.Mathlib.Omega.{arith}
 use lib.IntN.{ℤ}
@@ -113,6 +112,7 @@ pub record AtBlock (ws : List ℕ) (grid : Grid) (h : List ℕ) (win : Layers) (
   pub size : length b' ≡ length b
 
 some_empty : {i j : ℕ} (us : List Region) → us ≡ [] → Some (λ q. Inside q i j 0) us → ⊥
+some_empty {i = i} {j = j} [] e s = elim s [ ]
 some_empty (q ∷ us) e s = omega (arith, ap length e)
 
 some_first : {i j : ℕ} {us ys : List Region} {q : Region} → us ≡ q ∷ ys → Some (λ q. Inside q i j 0) us

@@ -1,5 +1,5 @@
 -- Blocks as cells of one layer, and what the functions that shade blocks ask.
-use Rattle.std.specs.Prelude.{◌≡◌, List, ℕ, ◌+◌, ◌≤◌, ◌<◌, ℤ, length}
+use Rattle.std.specs.Prelude.{List, ℕ, ◌+◌, ◌≤◌, ℤ, length}
 use Rattle.picture.specs.declared.grid.Grid.{Grid}
 use Rattle.walk.specs.Walks.{Level, MarksFit}
 use Rattle.walk.specs.declared.cell.Cell.{Cell}

@@ -1,5 +1,7 @@
 // The solid drawing by tiles with slopes: the checks, the drawing without slopes, and then the slopes of its pixels, in the
 // buffers of the levels that the drawing has left. The arrays are the call's own and as long as any tape needs.
+#![tactic(auto)]
+
 ghost use Rattle.std.specs.Prelude.{true, ◌≡◌, length};
 ghost use Rattle.rules.specs.Tapes.{clause_limit};
 ghost use Rattle.picture.specs.Shapes.{grid_in};

@@ -72,10 +72,10 @@ module _ (grid : Grid) (e : grid_fault true (grid_in grid true) ≡ 0) (x y z : 
           → ◌≡◌ {A = Sample} (record { x = a; y = c; z = f }) (record { x = b; y = d; z = g })
       samples p q r = cc
 
-  pub sample_ok : x < grid.width → y < grid.height → z < grid.depth → (s : Sample)
+  pub sample_ok_lem : x < grid.width → y < grid.height → z < grid.depth → (s : Sample)
       → s ≡ sample_at (grid_in grid true) x y z → SampleOk s
   unfolding sample_at
-  sample_ok hx hy hz s h =
+  sample_ok_lem hx hy hz s h =
       let a = accepted grid true e in
       rw h (rw (kind true grid e) (record { x = a.x_value x hx; y = a.y_value y hy; z = a.z_value refl z hz }))
 

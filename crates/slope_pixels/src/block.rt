@@ -6,7 +6,7 @@ use picture::grid::Grid;
 use walk::cell::lesser;
 
 // First index and past the last one on both axes.
-#[derive(Drop)]
+#[derive(Clone, Copy)]
 pub struct Block {
     pub x: u32,
     pub xend: u32,
@@ -16,7 +16,7 @@ pub struct Block {
 
 // Heights above `from` and up to `end`: the visible samples of their pixels have the z indices from the first number
 // and below the second.
-#[derive(Drop)]
+#[derive(Clone, Copy)]
 pub struct Layers {
     pub from: u32,
     pub end: u32,

@@ -32,7 +32,7 @@ fn put(slopes: &mut [i32], at: usize, x: i32, y: i32, z: i32)
 }
 
 // Column and row.
-#[derive(Drop)]
+#[derive(Clone, Copy)]
 pub struct Pixel {
     pub x: u32,
     pub y: u32,

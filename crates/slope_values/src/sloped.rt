@@ -8,7 +8,7 @@ use crate::axis;
 use fixed::value;
 
 // A value, and its slopes on x, y and z.
-#[derive(Drop)]
+#[derive(Clone, Copy)]
 pub struct Sloped {
     pub value: i32,
     pub x: i32,

@@ -1,5 +1,7 @@
 // The children of a solid's region that are not hidden, run eight at a time. Those before may hide one: so the eight are
 // listed by the picture as it is when the first of them comes, and not for the whole region at once.
+#![tactic(auto)]
+
 ghost use Rattle.solid_lanes.specs.SolidLanes.{ForList, ListedFrom, Found, ForBatch, InBatch};
 
 use child_lanes::run_numbered;
@@ -11,7 +13,7 @@ use walk::children::child;
 
 // Children by their numbers, one a lane, that were run together; the slot of their result, and the lane of the child whose
 // turn it is.
-#[derive(Drop)]
+#[derive(Clone, Copy)]
 pub struct Batch {
     pub numbers: [u32; 8],
     pub result: usize,

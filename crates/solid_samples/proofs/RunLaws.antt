@@ -17,7 +17,7 @@ use Rattle.walk.proofs.CellLaws.{child_in}
 use Rattle.axis_lanes.specs.Axes.{LaneSamples}
 use Rattle.solid_samples.specs.Chunks.{chunk_count, chunk_y, chunk_z, columns_of, RowValues, Listed}
 use Rattle.solid_samples.specs.Samples.{ForSamples, Placed}
-use Rattle.solid_samples.proofs.SampleLaws.{sample_same, sample_ok}
+use Rattle.solid_samples.proofs.SampleLaws.{sample_same, sample_ok_lem}
 use Rattle.solid_samples.proofs.ChunkLaws.{chunk_z_in}
 use Rattle.solid_samples.proofs.ListLaws.{column_lower, column_upper}
 
@@ -41,7 +41,7 @@ module _ {ws : List ℕ} {grid : Grid} {c : Cell} {b : List ℕ} (p : ForSamples
             (hz (first + k) (omega arith)) in
             record {
               value = λ m a.
-                  w.values m q (first + k) a hq (omega arith) (sample_ok grid x y z g p.ready.fault _ same)
+                  w.values m q (first + k) a hq (omega arith) (sample_ok_lem grid x y z g p.ready.fault _ same)
                   ∙ ap (value_at (tape_in m ws)) same;
             };
       }

@@ -84,13 +84,13 @@ module _ (grid : Grid) (x y z : ℕ) (i : InGrid grid.depth grid x y z) where
             → ◌≡◌ {A = Sample} (record { x = a; y = c; z = f }) (record { x = b; y = d; z = g })
         samples p q r = cc
 
-    pub sample_ok : (s : Sample) → s ≡ sample_at (grid_in grid true) x y z → SampleOk s
+    pub sample_ok_lem : (s : Sample) → s ≡ sample_at (grid_in grid true) x y z → SampleOk s
     unfolding sample_at
-    sample_ok s h =
+    sample_ok_lem s h =
         rw h (rw (kind true grid e) (record { x = x_value; y = y_value; z = z_value }))
 
-    past_z : past_z (grid_in grid true) (region x y z 1) ≡ z + 1
-    past_z = rw (kind true grid e) (part_one grid.depth z i.z_in)
+    past_z_lem : past_z (grid_in grid true) (region x y z 1) ≡ z + 1
+    past_z_lem = rw (kind true grid e) (part_one grid.depth z i.z_in)
 
   module _ {ws b : List ℕ} (r : Ready true grid b) (s : Sound ws) where
     hidden_by : (v : Bool) → leb (z + 1) (get_or b (y * grid.width + x) 0) ≡ v
@@ -143,7 +143,7 @@ module _ (grid : Grid) (x y z : ℕ) (i : InGrid grid.depth grid x y z) where
                 (draws_sample_full (hidden_by false (lt-leb _ _ low)) (tape_in m ws)
                 (ap is_neg (sym (run.value m a)) ∙ n)
                 (fill_sample {g = grid_in grid true} {z = z} i.x_in i.y_in
-                (rw (past_z r.fault) (raises_same (y * grid.width + x) 1 (z + 1) b (raised b' h)))));
+                (rw (past_z_lem r.fault) (raises_same (y * grid.width + x) 1 (z + 1) b (raised b' h)))));
             bound = omega arith;
           }
 

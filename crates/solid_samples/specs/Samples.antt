@@ -49,7 +49,7 @@ pub record ForSamples (ws : List ℕ) (grid : Grid) (c : Cell) (b : List ℕ) : 
 pub record ForRow (ws : List ℕ) (grid : Grid) (c : Cell) (y z : ℕ) (vs : List ℤ) (first : ℕ) (b : List ℕ) : Type 0 where
   pub all : ForSamples ws grid c b
   pub z_in : z < c.zend
-  pub first_in_lem : first ≤ 4
+  pub first_in : first ≤ 4
   pub values : RowValues ws grid c y z first vs
 
 pub record ForChunk (ws : List ℕ) (grid : Grid) (c : Cell) (y z : ℕ) (vs : List ℤ) (b : List ℕ) : Type 0 where

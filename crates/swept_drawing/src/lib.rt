@@ -1,5 +1,7 @@
 // The swept picture of a recorded path: the checks, and then the drawing by tiles of the tape's words, in arrays of the
 // call's own that are as long as any tape and any path need.
+#![tactic(auto)]
+
 ghost use Rattle.std.specs.Prelude.{◌≡◌, false, length};
 ghost use Rattle.rules.specs.Tapes.{clause_limit};
 ghost use Rattle.swept_rules.specs.Swept.{path_limit, swept_lines};

@@ -11,7 +11,7 @@ use fixed::clause::Bounds;
 use fixed::span::Span;
 
 // No position covers any of the region; the first that is kept covers all of it, with its number; or so many are kept.
-#[derive(Drop)]
+#[derive(Clone, Copy)]
 pub enum Cover {
     Nowhere,
     Everywhere(u16),

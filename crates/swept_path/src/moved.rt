@@ -13,7 +13,7 @@ use fixed::span::{Span, subtract_spans};
 use fixed::value::{maximum, minimum, subtract};
 
 // The offsets of some positions, from the least to the greatest on each axis.
-#[derive(Drop)]
+#[derive(Clone, Copy)]
 pub struct Hull {
     pub xs: Span,
     pub ys: Span,

@@ -16,7 +16,7 @@ const PATH_NUMBERS: usize = 8192;
 const TOP: i64 = 2147483647;
 
 // What a position takes from x and y.
-#[derive(Drop)]
+#[derive(Clone, Copy)]
 pub struct Offset {
     pub x: i32,
     pub y: i32,

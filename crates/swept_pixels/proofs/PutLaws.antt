@@ -116,6 +116,7 @@ one_layer : (c : Cell) → c.zend ≡ 1 → 0 < layers (ends_grid c)
 one_layer c e = rw e (omega arith)
 
 some_empty : {i j : ℕ} (us : List Region) → us ≡ [] → Some (λ q. Inside q i j 0) us → ⊥
+some_empty {i = i} {j = j} [] e s = elim s [ ]
 some_empty (q ∷ us) e s = omega (arith, ap length e)
 
 some_first : {i j : ℕ} {us ys : List Region} {q : Region} → us ≡ q ∷ ys → Some (λ q. Inside q i j 0) us

@@ -181,14 +181,14 @@ module _ {whole ws : List ℕ} {grid : Grid} {c : Cell} {zs : List ℤ} {ks kept
               record {
                 slots = a.slots;
                 accepted = short_again cut a.slots a.accepted;
-                keeps = subst (λ (t : Tape). Keeps f os g r t ls) (sym (short_tape a.slots a.accepted))
+                keeps = subst (λ (t : Tape). Keeps f os g r t ls) (sym (short_tape_lem a.slots a.accepted))
                     (short_keeps sound p.path.stays (cell_part p.cell) hulls (handed u.kept a));
               };
         }
       where
-        short_tape : (n : ℕ) → Accepted (tape_in n ws)
+        short_tape_lem : (n : ℕ) → Accepted (tape_in n ws)
             → tape_in n (drop start next') ≡ shortened (tape_in n ws) (hull_box (D.box_of g r) hull)
-        short_tape n a =
+        short_tape_lem n a =
             cut.short n (fit_of a)
             ∙ ap (λ (x : Box). shortened (tape_in n ws) x)
             (o ∙ ap (λ (x : Hull). hull_box b x) i ∙ ap (λ (x : Box). hull_box x hull) e.same)

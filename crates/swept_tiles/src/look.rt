@@ -9,7 +9,7 @@ use walk::cell::{Cell, flat_bounds};
 use walk::judge::cut_over;
 
 // Every pixel has this number; or so many positions are kept, and the short tape's words start there.
-#[derive(Drop)]
+#[derive(Clone, Copy)]
 pub enum Glance {
     Same(u16),
     Open(usize, usize),

@@ -1,5 +1,7 @@
 // The two calls with the table of verdicts that layer writer and preview share, each whole: beginning it, and drawing a
 // rectangle of tiles with it.
+#![tactic(auto)]
+
 mod lines;
 
 ghost use Rattle.promises.specs.Tables.{BeginSays, DrawSays};

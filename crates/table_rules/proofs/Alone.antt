@@ -78,9 +78,9 @@ module _ (s : List ℕ) (d : Grid) (good : (read_tape s).number ≡ 0) (fine : g
           ap (λ x. same_bytes x (table_head s' (flat_grid d'))) f.head ∙ e in
           rw (u, v, e)
 
-  own_number : (s' : List ℕ) (d' : Grid) (q : Rectangle) (b : List ℕ) (n m : ℕ) → Ours b
+  own_number_lem : (s' : List ℕ) (d' : Grid) (q : Rectangle) (b : List ℕ) (n m : ℕ) → Ours b
       → draw_fault s' (flat_grid d') q b n m ≡ own_fault s d s' d' q n m
-  own_number s' d' q b n m f =
+  own_number_lem s' d' q b n m f =
       line_for (own_lines s' (flat_grid d') q) (lent_lines (flat_grid d') n m) (table_fault s' (flat_grid d') b)
       (head_fault s d s' d')
       (λ e.
@@ -115,7 +115,7 @@ module _ (s : List ℕ) (d : Grid) (good : (read_tape s).number ≡ 0) (fine : g
       ap₂ returning (f.says.answer.number ∙ n)
       (f.says.answer.place ∙ ap (λ x. place_of x (read_tape s').place) n)
   step_returns (draws u s' d' q k) w m r f a =
-      let n = own_number s' d' q w.table (length (w.pictures u)) (length k) a in
+      let n = own_number_lem s' d' q w.table (length (w.pictures u)) (length k) a in
       ap₂ returning (f.says.answer.number ∙ n)
       (f.says.answer.place ∙ ap (λ x. place_of x (read_tape s').place) n)
 

@@ -2,25 +2,25 @@
 -- number of users; what each call draws is the full drawing's; and each user's picture is what it would be without the
 -- others.
 use mathlib.Core.Path.{◌≡◌, refl, sym, ap, subst, ◌∙◌}
-use mathlib.Core.Bool.{Bool, true, false, not}
+use mathlib.Core.Bool.{Bool, true, false}
 use mathlib.Core.Logic.{inl, inr}
 use mathlib.Core.List.{List, map}
 use Prim.Native.Nat.{ℕ, zero, suc, ◌+◌, ◌*◌, ◌≤◌}
 use native.Mathlib.Omega.{arith}
 use lib.Dec.{eqb}
 use lib.ListN.{length, take, replicate}
-use borrow.Author.Tests.{eqb-true, eqb-false, eq-eqb, ne_eqb, not-false}
-use Rattle.rules.specs.Values.{pick, when}
+use borrow.Author.Tests.{eqb-true, eqb-false, eq-eqb, ne_eqb}
+use Rattle.rules.specs.Values.{pick}
 use Rattle.rules.specs.Tapes.{place_of, read_tape}
 use Rattle.rules.specs.Drawings.{Grid, grid_fault, solid, fold, visit}
 use Rattle.rules.specs.Pictures.{picture}
-use Rattle.rules.proofs.Tests.{and_left, and_right, last_off}
+use Rattle.rules.proofs.Tests.{and_left, and_right}
 use Rattle.rules.proofs.Lines.{each_line}
 use Rattle.rules.proofs.Accepted.{accepted_tape}
 use Rattle.rules.proofs.Grids.{accepted_sound}
 use Rattle.order_rules.specs.Orders.{cleared}
 use Rattle.table_rules.specs.Tables.{head_length, tile_limit, table_length, flat_grid, table_head, begun, tile_of}
-use Rattle.table_rules.specs.Tables.{entry_in, entry_ok, entries_ok, same_bytes, table_ok, Rectangle, rectangle_ok}
+use Rattle.table_rules.specs.Tables.{entry_in, entry_ok, entries_ok, same_bytes, table_ok, Rectangle}
 use Rattle.table_rules.specs.Tables.{tiles_in, turn, laid, begin_lines, begin_fault}
 use Rattle.table_rules.specs.Tables.{table_fault, draw_fault, Answer, written, BeginSays, DrawSays}
 use Rattle.table_rules.specs.Turns.{TrueEntry, Truthful, walk_over, known_in, TrueTable, part_drawn, TrulyDrawn}
@@ -32,7 +32,7 @@ use Rattle.table_rules.proofs.Heads.{tape_fits, begun_size, begun_head, begun_en
 use Rattle.table_rules.proofs.Heads.{head_tape, head_grid}
 use Rattle.table_rules.proofs.Numbers.{in_tiles, tiles_rising}
 use Rattle.table_rules.proofs.Drawn.{flat_sides, tiles_turned}
-use Rattle.table_rules.proofs.Part.{part_drawn}
+use Rattle.table_rules.proofs.Part.{part_drawn_lem}
 
 -- A table newly begun is truthful.
 pub begun_truthful : (s : List ℕ) (g : Grid) → (read_tape s).number ≡ 0 → Truthful s g (begun s g)
@@ -46,10 +46,10 @@ begun_truthful s g e =
 
 -- A truthful table is not refused by 24 for its own tape and grid.
 module _ (s : List ℕ) (g : Grid) (good : (read_tape s).number ≡ 0) (b : List ℕ) (f : Truthful s g b) where
-  entries_ok : (n : ℕ) → n ≤ tile_limit → entries_ok n (read_tape s).tape b ≡ true
+  entries_ok_lem : (n : ℕ) → n ≤ tile_limit → entries_ok n (read_tape s).tape b ≡ true
   unfolding entries_ok
-  entries_ok zero h = refl
-  entries_ok (suc n) h = rw (entries_ok n (omega arith), entry (f.entries n h))
+  entries_ok_lem zero h = refl
+  entries_ok_lem (suc n) h = rw (entries_ok_lem n (omega arith), entry (f.entries n h))
     where
       entry : TrueEntry (read_tape s).tape g n (entry_in n b) → entry_ok (read_tape s).tape (entry_in n b) ≡ true
       entry (inl e) = rw e (unknown_ok (read_tape s).tape)
@@ -61,7 +61,7 @@ module _ (s : List ℕ) (g : Grid) (good : (read_tape s).number ≡ 0) (b : List
       let u : eqb (length b) table_length ≡ true = eq-eqb (length b) table_length f.size in
       let v : same_bytes (take head_length b) (table_head s g) ≡ true =
       ap (λ x. same_bytes x (table_head s g)) f.head ∙ bytes_same (table_head s g) in
-      rw (u, v) (entries_ok tile_limit (omega arith))
+      rw (u, v) (entries_ok_lem tile_limit (omega arith))
 
   pub never_refused : table_fault s g b ≡ 0
   never_refused = rw true_ok
@@ -125,7 +125,7 @@ draw_done s d q b b' o o' w w' r a says e =
       pixels =
           done_left n (laid g q (picture false g made.drawing.heights) o) o o' z says.pixels
           ∙ ap (λ h. laid g q (picture false g h) o) u.heights
-          ∙ part_drawn s good g flat sound q inside o;
+          ∙ part_drawn_lem s good g flat sound q inside o;
       count =
           ap (λ x. x + known_in b (tiles_in g q) * length t.clauses) c ∙ u.count
           ∙ ap (λ ns. (fold (λ p y. visit ns t g p y) (map (tile_of g) (tiles_in g q)) (cleared g)).clauses)

@@ -2,7 +2,7 @@
 use mathlib.Core.Path.{◌≡◌, refl, sym, ap, ap₂, ◌∙◌}
 use mathlib.Core.Bool.{Bool, true, false}
 use mathlib.Core.List.{List, [], ◌∷◌, ◌++◌, map}
-use Prim.Native.Nat.{ℕ, zero, suc, ◌+◌, ◌-◌, ◌*◌, ◌/◌, ◌%◌, ◌<◌, ◌≤◌}
+use Prim.Native.Nat.{ℕ, zero, suc, ◌+◌, ◌*◌, ◌/◌, ◌%◌, ◌<◌, ◌≤◌}
 use native.Mathlib.Omega.{arith}
 use native.Mathlib.Nat.{mul_comm, zero-mul, div-add-mod', mod-lt, div-lt_iff_lt-mul}
 use lib.Dec.{ltb, leb}
@@ -194,6 +194,7 @@ module _ (s : List ℕ) (good : (read_tape s).number ≡ 0) (g : Grid) (flat : s
 
   -- A sample of a tile is one of the whole grid.
   whole_hit : (p z : ℕ) (qs : List Region) → Some (λ r. Hit tape g r p z) qs → Hit tape g whole p z
+  whole_hit p z [] h = elim h [ ]
   whole_hit p z (q ∷ qs) (here h) =
       record {
         x = h.x;
@@ -289,10 +290,10 @@ module _ (s : List ℕ) (good : (read_tape s).number ≡ 0) (g : Grid) (flat : s
         tile_column c m h = omega arith
 
     -- "the pixels of each rectangle drawn are the full drawing's"; all other bytes stay.
-    pub part_drawn : (old : List ℕ)
+    pub part_drawn_lem : (old : List ℕ)
         → laid g q (picture false g heights) old ≡ laid g q (picture false g (drawn tape g)) old
     unfolding picture
-    part_drawn old =
+    part_drawn_lem old =
         let w = g.width in
         let h = g.height in
         same_laid 0 g q (bits_of w h heights) (bits_of w h (drawn tape g)) old

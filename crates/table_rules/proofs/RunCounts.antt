@@ -14,7 +14,7 @@ use Rattle.rules.specs.Drawings.{Grid, fold, visit}
 use Rattle.rules.proofs.Lines.{each_line}
 use Rattle.rules.proofs.Grids.{accepted_sound}
 use Rattle.order_rules.specs.Orders.{cleared, total}
-use Rattle.table_rules.specs.Tables.{flat_grid, begun, tile_of, Rectangle, rectangle_ok, tiles_in, turn}
+use Rattle.table_rules.specs.Tables.{flat_grid, begun, tile_of, Rectangle, tiles_in, turn}
 use Rattle.table_rules.specs.Tables.{begin_lines, begin_fault, draw_fault, Answer, BeginSays, DrawSays}
 use Rattle.table_rules.specs.Turns.{walk_over, TrueTable, Call, begins, draws, World, Begins, Draws, Follows}
 use Rattle.table_rules.specs.Turns.{Turn, Run, none, next, tile_part, count_in, Knows, known_then, known_after}

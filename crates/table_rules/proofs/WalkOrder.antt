@@ -78,9 +78,9 @@ module _ (g : Grid) (flat : solid g ≡ false) (fits : Fits g) where
   unfolding lesser
   cut n h = rw (le-leb n 512 h)
 
-  tiles_along : children g whole 64 ≡ along true 8 0 64 g.height row_of
+  tiles_along_lem : children g whole 64 ≡ along true 8 0 64 g.height row_of
   unfolding children along_z
-  tiles_along =
+  tiles_along_lem =
       rw (flat, cut g.width fits.width, cut g.height fits.height)
       (along_y_lem 8 8 0 0 0 64 g.width g.height)
 
@@ -99,9 +99,9 @@ module _ (g : Grid) (flat : solid g ≡ false) (fits : Fits g) where
       times_one : (a : ℕ) → a * 1 ≡ a
       times_one a = omega arith
 
-  pub tile_count : length (children g whole 64) ≡ down * across
-  tile_count =
-      ap length tiles_along
+  pub tile_count_lem : length (children g whole 64) ≡ down * across
+  tile_count_lem =
+      ap length tiles_along_lem
       ∙ along_size 64 g.height across row_of (omega arith) row_size 8 down 0 (omega (arith, fits.height)) rows
 
   -- The tile with a number is the one that the walk meets in that place.
@@ -111,7 +111,7 @@ module _ (g : Grid) (flat : solid g ≡ false) (fits : Fits g) where
       let p = some across h in
       let e : i % across < across = mod-lt i p in
       let q : i / across < down = (div-lt_iff_lt-mul p).1 (rw (mul_comm across down) at h) in
-      ap (λ v. get_or v i whole) tiles_along
+      ap (λ v. get_or v i whole) tiles_along_lem
       ∙ ap (λ v. get_or (along true 8 0 64 g.height row_of) v whole) (sym (div-add-mod' i across))
       ∙ along_at 64 g.height across row_of (omega arith) row_size 8 down 0 (omega (arith, fits.height)) rows
       (i / across) (i % across) q e
@@ -191,7 +191,7 @@ all_tiles_lem g flat fits =
     let d = tiles_down g in
     let start : 0 * a + 0 ≡ 0 = omega arith in
     ap (λ x. map (tile_of g) (rows_tiles d a a x)) start ∙ ap (map (tile_of g)) (rows_joined d a 0)
-    ∙ numbered (tile_of g) (d * a) 0 (children g whole 64) (tile_count g flat fits)
+    ∙ numbered (tile_of g) (d * a) 0 (children g whole 64) (tile_count_lem g flat fits)
     (λ k h. walk_order g flat fits k (omega (arith, mul_comm a d)) ∙ ap (tile_of g) (zero_plus k))
   where
     zero_plus : (a : ℕ) → a ≡ 0 + a

@@ -1,5 +1,5 @@
 -- T-13: what a table that was begun and drawn by these calls holds, along any run of calls.
-use Rattle.std.specs.Prelude.{◌≡◌, Bool, true, false, ◌||◌, not, ◌⊎◌, List, [], ◌∷◌, ◌++◌, map, ℕ, suc, ◌+◌, ◌*◌, ◌<◌, eqb, length, take}
+use Rattle.std.specs.Prelude.{◌≡◌, Bool, false, ◌||◌, not, ◌⊎◌, List, [], ◌∷◌, ◌++◌, map, ℕ, suc, ◌+◌, ◌*◌, ◌<◌, eqb, length, take}
 use Rattle.rules.specs.Values.{pick, first_fault, when}
 use Rattle.rules.specs.Tapes.{Tape, place_of, read_tape, is_in}
 use Rattle.rules.specs.Drawings.{Grid, grid_fault, State, state, fold, visit, sides, drawn}

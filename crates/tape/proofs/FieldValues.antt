@@ -25,7 +25,7 @@ abbrev pub small : ℤ → Type 0
 small z = mag z < 2147483648
 
 pub kept_is : (z : ℤ) → small z → kept z ≡ z
-kept_is z h = to_z-of_z (record { sfits = h })
+kept_is z h = to_z-of_z {w = w32} (record { sfits = h })
 
 -- A slot, as the code casts it; and one that goes into a byte.
 pub slot_cast : (n : ℕ) (z : ℤ) → SFits w32 z → is_slot n z ≡ true

@@ -1,4 +1,6 @@
 // The two forms of a tape, its bytes and its list: a clause read from each and written to each.
+#![tactic(auto)]
+
 pub mod bytes;
 pub mod edition;
 pub mod list;
@@ -27,7 +29,7 @@ pub const CLAUSE_BYTES: usize = 10;
 pub const CLAUSE_NUMBERS: usize = 5;
 
 // A clause as it is given: five signed numbers.
-#[derive(Drop)]
+#[derive(Clone, Copy)]
 pub struct Fields {
     pub opcode: i32,
     pub out: i32,

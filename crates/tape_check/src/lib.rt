@@ -1,4 +1,6 @@
 // Refusals 1 to 9: what is wrong with a lent tape or list, and where. Nothing is written.
+#![tactic(auto)]
+
 pub mod clause;
 
 ghost use Rattle.std.specs.Prelude.{◌≡◌, ◌+◌, ◌*◌, ◌≤◌, length, drop};
@@ -14,7 +16,7 @@ use tape::list::fields_of;
 use tape::{CLAUSE_BYTES, CLAUSE_LIMIT, CLAUSE_NUMBERS, HEAD_BYTES, SLOT_LIMIT};
 
 // What a check answers: 0 and the counts of slots and clauses, or the number of the refusal and its clause.
-#[derive(Drop)]
+#[derive(Clone, Copy)]
 pub struct Checked {
     pub number: u8,
     pub place: u32,

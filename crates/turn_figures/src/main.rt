@@ -1,5 +1,7 @@
 // The figures of calls that share what they are lent, by the public calls: parts that come and go on a plate, and the
 // table of verdicts of two users. Number, place and count of each call are written.
+#![tactic(auto)]
+
 mod plates;
 mod tables;
 

@@ -90,16 +90,16 @@ module _ {grid : Grid} {i : ℕ} {c : Cell} (t : IsTile grid i c) where
   tile_blank k =
       rw (ap (λ (q : Region). q.i) t.cell.same, ap (λ (q : Region). q.j) t.cell.same) k
 
-  pub tile_apart : {b b' : List ℕ} → Apart grid.width c.x (c.x + 64) c.y (c.y + 64) b b'
+  pub tile_apart_lem : {b b' : List ℕ} → Apart grid.width c.x (c.x + 64) c.y (c.y + 64) b b'
       → TileApart grid i b b'
-  tile_apart k =
+  tile_apart_lem k =
       rw (ap (λ (q : Region). q.i) t.cell.same, ap (λ (q : Region). q.j) t.cell.same) at k
 
   pub cell_apart : {b b' : List ℕ} → Apart grid.width c.x c.xend c.y c.yend b b' → TileApart grid i b b'
   cell_apart k =
       let x = t.cell.ok.xs.in_side in
       let y = t.cell.ok.ys.in_side in
-      tile_apart (apart_part (omega (arith, tile_side t, x, y)) k)
+      tile_apart_lem (apart_part (omega (arith, tile_side t, x, y)) k)
 
 -- What the verdict draws.
 module _ {whole table : List ℕ} {grid : Grid} {i : ℕ} {c : Cell} (t : IsTile grid i c) {b : List ℕ} where

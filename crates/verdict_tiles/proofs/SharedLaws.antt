@@ -146,8 +146,8 @@ module _ {whole : List ℕ} {grid : P.Grid} {i : ℕ} {b b' : List ℕ} {c : ℕ
         (sym (m.table n p.accepted))
         (sym (m.count ∙ ap (λ j. pick (eqb (verdict_in (entry_in i b)) 0) j 0) (sym (length_clauses whole))))
 
-    pub tile_shared : TileShared whole grid i b b' o o' (c + d)
-    tile_shared =
+    pub tile_shared_lem : TileShared whole grid i b b' o o' (c + d)
+    tile_shared_lem =
         record {
           shares = λ n p.
               (let w = k.draws n (met_passed n p) in

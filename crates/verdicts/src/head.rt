@@ -7,7 +7,6 @@ ghost use Rattle.table_rules.specs.Tables.{tape_room, head_length, flat_grid, ta
 ghost use Rattle.verdicts.specs.Records.{size_bytes, three_bytes};
 
 use crate::{HEAD_LENGTH, TAPE_ROOM};
-use bytes::copy;
 use picture::bits::clear;
 use picture::grid::Grid;
 use tape::write::{put_constant, put_mark, put_word};
@@ -48,7 +47,7 @@ pub fn write_head(out: &mut [u8], tape: &[u8], grid: Grid)
     ensures { out.new ≡ table_head tape.now (flat_grid (grid_in grid false)) }
 {
     clear(out);
-    copy(tape, out);
+    out[..tape.len()].copy_from_slice(tape);
     put_grid(&mut out[TAPE_ROOM..], grid)
 }
 

@@ -1,4 +1,6 @@
 // The table of verdicts that layer writer and preview share: begun, and checked before anything is drawn from it.
+#![tactic(auto)]
+
 mod entries;
 mod head;
 

@@ -9,7 +9,7 @@ use mir.Syntax.{w32}
 use mir.Val.{SFits}
 use mir.Facts.{to_z-of_z}
 use Rattle.rules.specs.Values.{Range, range, Box}
-use Rattle.rules.specs.Drawings.{lesser, solid, at, past_z, box_of, grid_fault, children, along_y, along_z}
+use Rattle.rules.specs.Drawings.{lesser, solid, at, box_of, grid_fault, children, along_y, along_z}
 use Rattle.rules.proofs.Words.{read}
 use Rattle.code.specs.Runs.{EndsOk}
 use Rattle.picture.specs.Shapes.{grid_in}
@@ -98,13 +98,12 @@ module _ (grid : Grid) (c : Cell) {xs ys zs : Range} (hx : xs ≡ span_of grid.x
       → CellBox true grid c (record { xs = xs; ys = ys; zs = zs })
   unfolding box_of
   solid_box k e hz =
-      let past : c.zend ≡ past_z (grid_in grid true) (region_in c) = rw (kind true grid e) k.zs.least in
       record {
         same = rw (kind true grid e)
             (boxes
             (hx ∙ span_least grid.xorigin grid.xstep c.x k.xs.least)
             (hy ∙ span_least grid.yorigin grid.ystep c.y k.ys.least)
-            (hz ∙ span_least grid.zorigin grid.zstep c.z past));
+            (hz ∙ span_least grid.zorigin grid.zstep c.z k.zs.least));
         ok = record {
           xs = span_ok_lem (x_span true grid c k e) hx;
           ys = span_ok_lem (y_span true grid c k e) hy;

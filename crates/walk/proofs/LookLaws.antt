@@ -65,9 +65,9 @@ module _ (isSolid : Bool) {whole ws : List ℕ} {grid : Grid} {c : Cell} {b work
   over_region : IsJudged whole ws (box_of (grid_in grid isSolid) (region_in c)) base work next j
   over_region = rw k.same at v
 
-  range_of : (m : ℕ) → Fit m ws
+  range_of_lem : (m : ℕ) → Fit m ws
       → range_in j.range ≡ range_over (tape_in m ws) (box_of (grid_in grid isSolid) (region_in c))
-  range_of m a = over_region.range m a
+  range_of_lem m a = over_region.range m a
 
   outcome_of : {o : Outcome} → j.outcome ≡ o
       → OutcomeOf whole ws (box_of (grid_in grid isSolid) (region_in c)) (range_in j.range) base work next o
@@ -78,11 +78,11 @@ module _ (isSolid : Bool) {whole ws : List ℕ} {grid : Grid} {c : Cell} {b work
 
   high_of : {t : Bool} (m : ℕ) → Accepted (tape_in m ws) → is_neg j.range.high ≡ t
       → is_neg (range_over (tape_in m ws) (box_of (grid_in grid isSolid) (region_in c))).high ≡ t
-  high_of m a h = ap (λ (y : Range). is_neg y.high) (sym (range_of m (fit_of a))) ∙ h
+  high_of m a h = ap (λ (y : Range). is_neg y.high) (sym (range_of_lem m (fit_of a))) ∙ h
 
   low_of : {t : Bool} (m : ℕ) → Accepted (tape_in m ws) → is_neg j.range.low ≡ t
       → is_neg (range_over (tape_in m ws) (box_of (grid_in grid isSolid) (region_in c))).low ≡ t
-  low_of m a h = ap (λ (y : Range). is_neg y.low) (sym (range_of m (fit_of a))) ∙ h
+  low_of m a h = ap (λ (y : Range). is_neg y.low) (sym (range_of_lem m (fit_of a))) ∙ h
 
   pub done_full : {b' : List ℕ} → j.outcome ≡ Full
       → Fills (Shown isSolid grid) (grid_in grid isSolid) (region_in c) b b'
@@ -110,7 +110,7 @@ module _ (isSolid : Bool) {whole ws : List ℕ} {grid : Grid} {c : Cell} {b work
       record {
         same = refl;
         seen = e;
-        mixed = λ n a. subst IsMixed (range_of n a) (outcome_of h).mixed;
+        mixed = λ n a. subst IsMixed (range_of_lem n a) (outcome_of h).mixed;
         cut = (outcome_of h).cut;
       }
 

@@ -9,7 +9,7 @@ use fixed::span::Span;
 use picture::grid::{Grid, sample};
 
 // First index and past the last one on each axis, cut off at the grid's edge, and the side before that.
-#[derive(Drop)]
+#[derive(Clone, Copy)]
 pub struct Cell {
     pub x: u32,
     pub xend: u32,

@@ -5,7 +5,7 @@ ghost use Rattle.walk.specs.Verdicts.{Judged};
 use fixed::span::Span;
 
 // Material everywhere; nowhere; or neither is certain.
-#[derive(Drop)]
+#[derive(Clone, Copy)]
 pub enum Verdict {
     Full,
     Empty,

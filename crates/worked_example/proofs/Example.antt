@@ -149,15 +149,15 @@ pub checked : {s : List ℕ} {isSolid : Bool} {g : Grid} {count : ℕ} → (read
 checked t k f e c = record { tape = t; kind = k; grid = f; same = e; counted = c }
 
 pub record Computed : Type 0 where
-  pub ten_flat : Checked ten_bytes false ten_flat 692
-  pub ten_solid : Checked ten_bytes true ten_solid 146
-  pub ten_bytes : all_bytes ten_bytes ≡ true
+  pub ten_flat_lem : Checked ten_bytes false ten_flat 692
+  pub ten_solid_lem : Checked ten_bytes true ten_solid 146
+  pub ten_bytes_lem : all_bytes ten_bytes ≡ true
   pub ten_list : (read_list 3 (list_of ten.clauses)).number ≡ 0
   pub ten_words : all_in32 (list_of ten.clauses) ≡ true
   -- The flat walk cuts both 64-tiles. Of the 8-regions in the first the first is filled, the second cut to samples, the
   -- third skipped.
-  pub flat_tiles : map (signs ten ten_flat) (children ten_flat whole 64) ≡ cuts ∷ (cuts ∷ [])
-  pub flat_eights : map (signs (tile_tape ten_flat) ten_flat) (take 3 (children ten_flat tile 8))
+  pub flat_tiles_lem : map (signs ten ten_flat) (children ten_flat whole 64) ≡ cuts ∷ (cuts ∷ [])
+  pub flat_eights_lem : map (signs (tile_tape ten_flat) ten_flat) (take 3 (children ten_flat tile 8))
       ≡ fills ∷ (cuts ∷ (skips ∷ []))
   -- From ten clauses the tape comes down to three: the subtraction from x and the two that it reads.
   pub flat_down : InWalk ten_flat down_to
@@ -166,7 +166,7 @@ pub record Computed : Type 0 where
   pub flat_ones : length (children ten_flat (region 8 0 0 8) 1) ≡ 64
   -- The solid walk cuts its 64-tile and the region of side 16 in it. Of those of side 4 the first two are skipped, the
   -- third is filled, the fourth cut to samples, and the fifth is hidden by the third.
-  pub solid_tiles : map (signs ten ten_solid) (children ten_solid whole 64) ≡ cuts ∷ []
+  pub solid_tiles_lem : map (signs ten ten_solid) (children ten_solid whole 64) ≡ cuts ∷ []
   pub solid_sixteens : map (signs (tile_tape ten_solid) ten_solid) (children ten_solid tile 16) ≡ cuts ∷ []
   pub solid_fours : children ten_solid sixteen 4
       ≡ region 0 0 8 4
@@ -186,10 +186,10 @@ pub record Computed : Type 0 where
   pub two_accepted : (read_tape two_bytes).number ≡ 0
   pub bound_reached : part_of two (grid_of 64 64 0 65536) tile (state [] 0) ≡ flat_bound * length two.clauses
   -- The paper's figures: the file `50 34 0A 33 20 32 0A C0 C0` with count 24 (3 + 3 + 18), and height 2 with count 18.
-  pub three_flat : Checked (three_bytes 1) false three_flat 24
+  pub three_flat_lem : Checked (three_bytes 1) false three_flat 24
   pub three_file : bitmap_file 3 2 (picture false three_flat (walked (three 1) three_flat).heights)
       ≡ 80 ∷ (52 ∷ (10 ∷ (51 ∷ (32 ∷ (50 ∷ (10 ∷ (192 ∷ (192 ∷ []))))))))
-  pub three_solid : Checked (three_bytes 3) true three_solid 18
+  pub three_solid_lem : Checked (three_bytes 3) true three_solid 18
   pub three_heights : (walked (three 3) three_solid).heights ≡ 2 ∷ []
 
 pub computed : Computed
@@ -204,18 +204,18 @@ unfolding Nested OneOf short_after all_bytes all_in32 list_of raws_of read_list 
     bits_of row_bytes byte_of slopes_at sloped_at sloped_from sloped_of slope_of unary_slope binary_slope
 computed =
     record {
-      ten_flat = checked refl refl refl refl refl;
-      ten_solid = checked refl refl refl refl refl;
-      ten_bytes = refl;
+      ten_flat_lem = checked refl refl refl refl refl;
+      ten_solid_lem = checked refl refl refl refl refl;
+      ten_bytes_lem = refl;
       ten_list = refl;
       ten_words = refl;
-      flat_tiles = refl;
-      flat_eights = refl;
+      flat_tiles_lem = refl;
+      flat_eights_lem = refl;
       flat_down = (inl refl, (inr (inl refl), tt));
       flat_short = refl;
       flat_value = refl;
       flat_ones = refl;
-      solid_tiles = refl;
+      solid_tiles_lem = refl;
       solid_sixteens = refl;
       solid_fours = refl;
       solid_signs = refl;
@@ -234,37 +234,37 @@ computed =
       solid_hidden = refl;
       two_accepted = refl;
       bound_reached = refl;
-      three_flat = checked refl refl refl refl refl;
+      three_flat_lem = checked refl refl refl refl refl;
       three_file = refl;
-      three_solid = checked refl refl refl refl refl;
+      three_solid_lem = checked refl refl refl refl refl;
       three_heights = refl;
     }
 
 -- So the demands hold of something: the tape of ten clauses meets what each of them asks for.
 pub ten_tiles : Tiles ten
-ten_tiles = demand_3 ten_bytes computed.ten_flat.tape
+ten_tiles = demand_3 ten_bytes computed.ten_flat_lem.tape
 
 pub flat_by_theorem : (walked ten ten_flat).heights ≡ drawn ten ten_flat
-flat_by_theorem = ten_tiles.same_picture ten_flat false computed.ten_flat.kind computed.ten_flat.grid
+flat_by_theorem = ten_tiles.same_picture ten_flat false computed.ten_flat_lem.kind computed.ten_flat_lem.grid
 
 pub solid_by_theorem : (walked ten ten_solid).heights ≡ drawn ten ten_solid
-solid_by_theorem = ten_tiles.same_picture ten_solid true computed.ten_solid.kind computed.ten_solid.grid
+solid_by_theorem = ten_tiles.same_picture ten_solid true computed.ten_solid_lem.kind computed.ten_solid_lem.grid
 
 pub value_by_theorem : value_at down_tape (sample_at ten_flat 9 7 0) ≡ value_at ten (sample_at ten_flat 9 7 0)
 unfolding last_in
 value_by_theorem =
-    ten_tiles.same_value_in_walk ten_flat false computed.ten_flat.kind computed.ten_flat.grid down_to
+    ten_tiles.same_value_in_walk ten_flat false computed.ten_flat_lem.kind computed.ten_flat_lem.grid down_to
     computed.flat_down 9 7 0 (omega arith) (omega arith)
 
 pub slopes_by_theorem : three_at (slopes_of ten ten_solid (drawn ten ten_solid)) 7
     ≡ listed (slopes_at (short_after ten (map (box_of ten_solid) solid_to)) (sample_at ten_solid 1 1 7))
 slopes_by_theorem =
-    (visible_slopes ten (accepted_good ten_bytes computed.ten_flat.tape) ten_solid true computed.ten_solid.kind
-    computed.ten_solid.grid (drawn ten ten_solid) (drawn_most ten ten_solid)
+    (visible_slopes ten (accepted_good ten_bytes computed.ten_flat_lem.tape) ten_solid true computed.ten_solid_lem.kind
+    computed.ten_solid_lem.grid (drawn ten ten_solid) (drawn_most ten ten_solid)
     ).set_by 1 1 7 computed.solid_height solid_to (region 0 0 4 4) computed.solid_down computed.solid_raises
 
 pub ten_by_tape : (tape_bytes ten ≡ ten_bytes) × (read_list ten.slots (list_of ten.clauses) ≡ read_tape ten_bytes)
-ten_by_tape = both_ways.by_tape ten_bytes computed.ten_bytes computed.ten_flat.tape
+ten_by_tape = both_ways.by_tape ten_bytes computed.ten_bytes_lem computed.ten_flat_lem.tape
 
 pub ten_by_list : let t = (read_list 3 (list_of ten.clauses)).tape in
     (read_tape (tape_bytes t) ≡ read_list 3 (list_of ten.clauses)) × (list_of t.clauses ≡ list_of ten.clauses)

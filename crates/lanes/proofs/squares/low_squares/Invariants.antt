@@ -1,0 +1,15 @@
+-- `squares::low_squares`: lane by lane.
+use mathlib.Core.Path.{◌≡◌}
+use Prim.Native.Nat.{◌-◌, ◌≤◌}
+use lib.IntN.{pos}
+use lib.ListN.{get_or}
+use Rattle.lanes.specs.Lanes.{lane_count}
+use Rattle.lanes.specs.Squares.{low_square}
+use Rattle.lanes.proofs.LaneLaws.{Below}
+use Rattle.lanes.proofs.squares.low_squares.Given as goal
+
+abbrev pub invariant-loop-k : goal.invariant-loop-k
+invariant-loop-k l = (l.k ≤ lane_count) × Below (pos 0) (λ j v. v ≡ pos (low_square (get_or l.n j 0))) l.p l.k
+
+abbrev pub decreases-loop-k : goal.decreases-loop-k
+decreases-loop-k l = lane_count - l.k

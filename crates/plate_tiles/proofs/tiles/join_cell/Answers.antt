@@ -1,0 +1,12 @@
+-- The part of the cell joined.
+use Rattle.plate_tiles.proofs.TileNumbers.{to_patch}
+use Rattle.plate_tiles.proofs.tiles.join_cell.Goals as goal
+
+pub join_part-requires : goal.join_part-requires
+join_part-requires c =
+    let t = to_patch c.requires.for_patch in
+    record {
+      within_1 = t.0;
+      within_2 = t.1;
+      other_len = c.requires.other_len;
+    }
