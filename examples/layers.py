@@ -2,7 +2,7 @@
 
     python3 examples/layers.py          draws a ring to the terminal
 
-The first use links target/staticlib/liblayers_c.a, which `rt staticlib layers_c` (or ./lezantsiro) makes, into a shared
+The first use links target/staticlib/liblayers_c.a, which ./lezantsiro (or .ci/run) puts there, into a shared
 object with cc. Pictures come as numpy arrays where numpy is at hand, otherwise as bytes and arrays of the standard library.
 What is drawn is the core's; this module only lends it buffers, of the lengths that it asks for.
 """

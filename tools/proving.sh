@@ -4,6 +4,8 @@
 # shellcheck shell=sh disable=SC2154
 ticker=
 proving=
+# The crates that have a built library before rt begins, each behind a space.
+before=
 
 # Waits until no other run is at work: rt and the pictures share folders. The kernel frees descriptor 9 with the last
 # process that has it, so that a killed run leaves no lock behind, and one whose rt is still at work does.
@@ -34,40 +36,49 @@ stop_proving() {
     proving=
 }
 
-# How far rt is, by what it has told of each crate: sets $ended, $total and $names, the crates that it is at. It proves
-# level by level: it is at the lowest level that has a crate of which it has not told. crates.txt has each crate behind
-# those that it builds on.
+# How far rt is, by what it has told of each crate: sets $ended, $total and $name, the crate that it is at. It proves one
+# after the other, and says nothing of those that were built before and have not changed, nor of those that it takes from
+# another copy: what a crate builds on is proved when it comes to that one. crates.txt has each crate behind those that it
+# builds on.
 look() {
-    state=$(awk -F '[: ]+' -v goals="$goals" '
-        NR > FNR { if (/^rt: [a-z0-9_]+ proved/) told[$2] = 1; next }
+    state=$(awk -F '[: ]+' -v goals="$goals" -v before="$before" '
+        NR > FNR {
+            if (/^rt: chose --jobs [0-9]+ for [a-z0-9_]+$/) { at = $6; delete told[at] }
+            if (/^logic=proved / && at != "") { told[at] = 1; at = "" }
+            next
+        }
         /^[a-z]/ {
             crate[++n] = $1
             size[$1] = 0
             for (i = 2; i <= NF; i++) if ($i in size) below[$1, ++size[$1]] = $i
         }
         END {
+            for (i = n; i > 0; i--) {
+                c = crate[i]
+                if (c in told || c == at) for (j = size[c]; j > 0; j--) told[below[c, j]] = 1
+            }
             n_goals = split(goals, goal, " ")
             for (i = 1; i <= n_goals; i++) needed[goal[i]] = 1
+            n_built = split(before, built, " ")
+            for (i = 1; i <= n_built; i++) told[built[i]] = 1
             for (i = n; i > 0; i--) {
                 c = crate[i]
                 if (c in needed) for (j = size[c]; j > 0; j--) needed[below[c, j]] = 1
             }
+            name = at
             for (i = 1; i <= n; i++) {
                 c = crate[i]
                 if (!(c in needed)) continue
                 total++
-                for (j = size[c]; j > 0; j--) if (level[below[c, j]] >= level[c]) level[c] = level[below[c, j]] + 1
-                if (c in told) { ended++; continue }
-                if (names != "" && level[c] > low) continue
-                names = names != "" && level[c] == low ? names ", " c : c
-                low = level[c]
+                if (c in told && c != at) ended++
+                else if (name == "") name = c
             }
-            print ended + 0, total, names
+            print ended + 0, total, name
         }' "$root/crates.txt" "$out/build.log")
     ended=${state%% *}
     state=${state#* }
     total=${state%% *}
-    names=${state#* }
+    name=${state#* }
     seconds=$(($(date +%s) - began))
 }
 
@@ -75,38 +86,87 @@ look() {
 tick() {
     while sleep 1 && kill -0 $$ 2> /dev/null; do
         look
-        [ -z "$names" ] ||
-            printf '\r\033[Kproving %s, %s of %s (%s s so far)' "$names" "$((ended + 1))" "$total" "$seconds"
+        [ -z "$name" ] ||
+            printf '\r\033[Kproving %s, %s of %s (%s s so far)' "$name" "$((ended + 1))" "$total" "$seconds"
     done
 }
 
 # Keeps what rt says; if the output is no terminal, a line for each crate that was proved.
 follow() {
+    at=
     while IFS= read -r line; do
         printf '%s\n' "$line" >> "$out/build.log"
         [ ! -t 1 ] || continue
         case $line in
-            "rt: "*" proved (unchanged"*) ;;
-            "rt: "*" proved ("*)
+            "rt: chose --jobs "*" for "*) at=${line##* } ;;
+            "logic=proved "*)
+                [ -n "$at" ] || continue
                 look
-                line=${line#rt: }
                 printf 'proved %s, %s of %s (%s s so far)%s\n' \
-                    "${line%% *}" "$ended" "$total" "$seconds" "${names:+, now proving $names}"
+                    "$at" "$ended" "$total" "$seconds" "${name:+, now proving $name}"
+                at=
                 ;;
         esac
     done
 }
 
-# prove WHAT BUILT COMMAND: has rt prove $goals and build WHAT; what is proved already is not proved again. BUILT is
-# not empty if it was built before.
+# rt_in GOAL COMMAND: has rt prove a crate and build it. rt runs a program that it has built: on the crate's own input, and
+# what it writes is for nobody.
+rt_in() {
+    cd "$root/crates/$1" || exit
+    if [ "$2" = run ]; then
+        input=stdin
+        [ -e stdin ] || input=/dev/null
+        exec rt run < "$input" 2>&1 > /dev/null
+    fi
+    exec rt "$2" 2>&1
+}
+
+# place_of GOAL: sets $made, what rt builds of a crate, and $placed, where all look for it: rt ci empties each folder out.
+place_of() {
+    made=$root/crates/$1/out/$1
+    placed=$root/target/bin/$1
+    if [ ! -e "$root/crates/$1/src/main.rt" ]; then
+        made=$root/crates/$1/out/lib$1.a
+        placed=$root/target/staticlib/lib$1.a
+    fi
+}
+
+# Whether a crate's goal is in its place, and no source has changed since. So it is behind .ci/run, though rt would prove all
+# crates again: it takes nothing that rt ci has proved.
+is_placed() {
+    place_of "$1"
+    [ -e "$placed" ] || return 1
+    [ -z "$(find -L "$root/crates" "$root/crates.txt" -name out -prune -o -type f -newer "$placed" -print | head -n 1)" ]
+}
+
+place() {
+    place_of "$1"
+    # a copy that is cut off is none
+    mkdir -p "${placed%/*}" && cp "$made" "$work/placed" && mv "$work/placed" "$placed"
+}
+
+# prove WHAT BUILT COMMAND: has rt prove $goals and build WHAT, by its command run or lib; what is proved already is not
+# proved again. BUILT is not empty if it was built before.
 prove() {
     command -v rt > /dev/null ||
         fail "rt is not on the PATH. Install the Rattle kit and put its folder bin on the PATH, then run $script again."
+    due=
+    for goal in $goals; do
+        is_placed "$goal" || due="$due $goal"
+    done
+    [ -n "$due" ] || return 0
+    goals=$due
     began=$(date +%s)
     : > "$out/build.log"
+    before=
+    for kept in "$root"/crates/*/out/rlib/stamp; do
+        crate=${kept#"$root/crates/"}
+        [ ! -e "$kept" ] || before="$before ${crate%%/*}"
+    done
     if [ -z "$2" ]; then
         look
-        printf 'Proving and building %s, some minutes the first time: %s crates, now %s\n' "$1" "$total" "$names"
+        printf 'Proving and building %s, some minutes the first time: %s crates, now %s\n' "$1" "$total" "$name"
     fi
     if [ -t 1 ]; then
         tick 9>&- &
@@ -115,12 +175,15 @@ prove() {
     # In the background: a trap waits for the end of a command in the foreground, but not for this.
     proving=yes
     {
-        # shellcheck disable=SC2086
-        (cd "$root" && exec rt "$3" $goals) 2>&1 &
-        echo $! > "$work/rt"
-        wait $!
-        # whoever was ended has removed the folder
-        { echo $? > "$work/status"; } 2> /dev/null
+        for goal in $goals; do
+            rt_in "$goal" "$3" &
+            echo $! > "$work/rt"
+            wait $! && place "$goal"
+            status=$?
+            # whoever was ended has removed the folder
+            { echo "$status" > "$work/status"; } 2> /dev/null
+            [ "$status" = 0 ] || break
+        done
     } | follow &
     wait $!
     proving=

@@ -1,5 +1,5 @@
-//! Links the proved archive, which `rt staticlib layers_c` writes to target/staticlib. LAYERS_LIB_DIR names another
-//! folder that has it.
+//! Links the proved archive, which .ci/run and ./lezantsiro put in target/staticlib. LAYERS_LIB_DIR names another folder
+//! that has it: what `rt lib` makes in crates/layers_c lies in its folder out.
 
 use std::env;
 use std::path::{Path, PathBuf};
@@ -30,7 +30,7 @@ fn folder() -> Result<PathBuf, String> {
     if !archive.is_file() {
         let place = archive.display();
         return Err(format!(
-            "{place} is not there: 'rt staticlib layers_c' writes it to target/staticlib; \
+            "{place} is not there: run ./lezantsiro or .ci/run, which put it in target/staticlib; \
              LAYERS_LIB_DIR names another folder that has it"
         ));
     }

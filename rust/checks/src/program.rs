@@ -61,7 +61,7 @@ pub fn command() -> Command {
 /// A program of the repository.
 pub fn built(name: &str) -> Command {
     let path = Path::new(env!("CARGO_MANIFEST_DIR")).join("../../target/bin").join(name);
-    assert!(path.exists(), "{} is not there: run rt check first", path.display());
+    assert!(path.exists(), "{} is not there: .ci/run puts it there, and ./draw does", path.display());
     Command::new(path)
 }
 

@@ -55,12 +55,19 @@ impl Run {
     }
 }
 
-/// A scratch folder with a repository `repo`, the stubs in `bin`, and `room`, where the runs start.
+/// A scratch folder with a repository `repo`, the stubs in `bin`, and `room`, where the runs start. It lies outside of
+/// this repository, in which rt suffers no other one.
 struct Scratch(PathBuf);
+
+impl Drop for Scratch {
+    fn drop(&mut self) {
+        let _ = fs::remove_dir_all(&self.0);
+    }
+}
 
 impl Scratch {
     fn new(test: &str) -> Scratch {
-        let top = Path::new(env!("CARGO_TARGET_TMPDIR")).join("draw").join(test);
+        let top = std::env::temp_dir().join(format!("lezantsiro-draw-{}-{test}", std::process::id()));
         let _ = fs::remove_dir_all(&top);
         let scratch = Scratch(top);
         for folder in ["repo/target/bin", "repo/target/cargo/release", "repo/tools", "repo/docs", "bin", "room"] {
@@ -73,16 +80,31 @@ impl Scratch {
         let draw = fs::read_to_string(in_repository("draw")).unwrap();
         scratch.script("repo/draw", draw.strip_prefix("#!/bin/sh\n").expect("a script"));
         for name in ["drawlayer", "readtext"] {
-            symlink(program::built(name).get_program(), scratch.at("repo/target/bin").join(name)).unwrap();
+            let folder = scratch.at("repo/crates").join(name);
+            fs::create_dir_all(folder.join("src")).unwrap();
+            fs::create_dir(folder.join("out")).unwrap();
+            File::create(folder.join("src/main.rt")).unwrap();
+            for place in [scratch.at("repo/target/bin"), folder.join("out")] {
+                symlink(program::built(name).get_program(), place.join(name)).unwrap();
+            }
         }
         scratch.script("repo/target/cargo/release/preview", "printf PNG > \"$3\"");
         scratch.script("bin/cargo", "");
-        scratch.script("bin/rt", "echo 'rt: ok'");
+        scratch.script("bin/rt", "echo 'rt: nothing has changed' >&2");
         scratch
     }
 
     fn at(&self, path: &str) -> PathBuf {
         self.0.join(path)
+    }
+
+    /// The programs are in their places, and newer than every source: rt is not asked, and nothing is copied there.
+    fn built(self) -> Scratch {
+        for source in ["crates.txt", "crates/drawlayer/src/main.rt", "crates/readtext/src/main.rt"] {
+            let file = File::options().write(true).open(self.at("repo").join(source)).unwrap();
+            file.set_modified(std::time::UNIX_EPOCH).unwrap();
+        }
+        self
     }
 
     /// Writes a file that can be run. Another process writes it: a file that this one has open for writing, as a child
@@ -170,12 +192,26 @@ fn a_part() {
 
 #[test]
 fn a_full_disk() {
-    let s = Scratch::new("a_full_disk");
+    let s = Scratch::new("a_full_disk").built();
     s.input("x.part", &part());
     let mut command = s.command("sh");
     command.args(["-c", "trap '' XFSZ; ulimit -f 16; exec ../repo/draw x.part"]);
     let complaint = "draw: x.part: the picture was not written whole, and is not kept. Is the disk full?\n";
     s.drew_nothing(&s.run(command), complaint);
+}
+
+/// A program that was just built, and of which only a part is copied to its place, is none: the old one stays there.
+#[test]
+fn a_full_disk_and_a_program() {
+    let s = Scratch::new("a_full_disk_and_a_program");
+    s.input("x.part", &part());
+    let mut command = s.command("sh");
+    command.args(["-c", "trap '' XFSZ; ulimit -f 16; exec ../repo/draw x.part"]);
+    let ran = s.run(command);
+    assert_eq!((ran.code, &ran.said[..], s.pictures()), (Some(1), "", vec![]));
+    assert!(ran.complaint.contains("draw: the program was not built: see out/build.log"), "{}", ran.complaint);
+    let placed = fs::read_link(s.at("repo/target/bin/drawlayer")).unwrap();
+    assert_eq!(placed, program::built("drawlayer").get_program());
 }
 
 /// A text whose beginning is another formula: with the `+ 100` it has no material. Its tape is long too.
@@ -185,7 +221,7 @@ fn text_of_two() -> String {
 
 #[test]
 fn a_full_disk_and_a_text() {
-    let s = Scratch::new("a_full_disk_and_a_text");
+    let s = Scratch::new("a_full_disk_and_a_text").built();
     s.input("x.txt", text_of_two().as_bytes());
     // room for a half of the text
     let mut command = s.command("sh");
@@ -246,7 +282,7 @@ fn no_older_picture_behind_a_refusal() {
 fn options_that_are_none() {
     let s = Scratch::new("options_that_are_none");
     s.input("x.part", &part());
-    s.script("bin/rt", "touch ../built; exit 1");
+    s.script("bin/rt", "touch ../../../built; exit 1");
     for (inputs, option) in [(&["-o", "x.part"][..], "-o"), (&["--version"], "--version"), (&["x.part", "-v"], "-v")] {
         let said =
             format!("draw: {option} is no option, and no file that is here. './draw --help' says what there is\n");
@@ -424,9 +460,10 @@ fn two_runs_at_once() {
     s.input("x.part", &part());
     s.input("y.part", &part());
     // the first stays in rt until the second has said that it waits, or has come into rt too
-    let body = "mkdir ../busy || { touch ../twice; exit 1; }
-until [ -s ../second.err ] || [ -e ../twice ]; do sleep 0.02; done
-rmdir ../busy";
+    let body = "cd ../../..
+mkdir busy || { touch twice; exit 1; }
+until [ -s second.err ] || [ -e twice ]; do sleep 0.02; done
+rmdir busy";
     s.script("bin/rt", body);
     let start = |label: &str, input: &str| {
         let mut command = s.command(s.at("repo/draw"));
@@ -453,17 +490,22 @@ fn a_start_through_a_symbolic_link() {
     s.drew(&s.run(command), "x");
 }
 
-/// How far the proof is, the first time: a line for each crate that was proved, and which are next; those that no longer
-/// need proof are only counted.
+/// How far the proof is, the first time: a line for each crate that was proved, and which is next; one that no longer
+/// needs proof is only counted.
 #[test]
 fn a_line_for_each_crate() {
     let s = Scratch::new("a_line_for_each_crate");
     s.input("x.part", &part());
-    let built = s.at("repo/target/bin/drawlayer");
-    fs::rename(&built, s.at("drawlayer")).unwrap();
-    let body = "echo 'rt: rules proved (41 s)'; echo 'rt: isqrt proved (unchanged since it was last proved)'
-echo 'rt: tape proved (7 s)'; echo 'rt: drawlayer proved (20 s)'; echo 'rt: drawlayer ran'
-mv ../drawlayer target/bin";
+    fs::rename(s.at("repo/target/bin/drawlayer"), s.at("drawlayer")).unwrap();
+    fs::create_dir_all(s.at("repo/crates/isqrt/out/rlib")).unwrap();
+    File::create(s.at("repo/crates/isqrt/out/rlib/stamp")).unwrap();
+    let body = "for name in rules tape drawlayer; do
+    echo \"rt: chose --jobs 2 for $name\"
+    echo \"fn $name::f: proved\"
+    echo 'logic=proved functions=1'
+done >&2
+echo 'rt: running out/drawlayer' >&2
+mv ../../../drawlayer out";
     s.script("bin/rt", body);
     let ran = s.draw(&["x.part"]);
     s.drew(&ran, "x");
@@ -471,8 +513,31 @@ mv ../drawlayer target/bin";
     let told: Vec<String> = ran.said.lines().take(4).map(|line| without_number_before(line, " s so far")).collect();
     let expected = [
         "Proving and building the program, some minutes the first time: 4 crates, now rules",
-        "proved rules, 1 of 4 ( s so far), now proving isqrt, tape",
+        "proved rules, 2 of 4 ( s so far), now proving tape",
         "proved tape, 3 of 4 ( s so far), now proving drawlayer",
+        "proved drawlayer, 4 of 4 ( s so far)",
+    ];
+    assert_eq!(told, expected);
+}
+
+/// Of what it takes from another copy rt says nothing more: it is proved when rt comes to what builds on it.
+#[test]
+fn crates_that_were_proved_elsewhere() {
+    let s = Scratch::new("crates_that_were_proved_elsewhere");
+    s.input("x.part", &part());
+    fs::rename(s.at("repo/target/bin/drawlayer"), s.at("drawlayer")).unwrap();
+    let body = "for name in rules isqrt tape; do
+    echo \"rt: $name: begins with what a check kept in /elsewhere/crates/$name\"
+done >&2
+echo 'rt: chose --jobs 2 for drawlayer' >&2
+echo 'logic=proved functions=1' >&2
+mv ../../../drawlayer out";
+    s.script("bin/rt", body);
+    let ran = s.draw(&["x.part"]);
+    s.drew(&ran, "x");
+    let told: Vec<String> = ran.said.lines().take(2).map(|line| without_number_before(line, " s so far")).collect();
+    let expected = [
+        "Proving and building the program, some minutes the first time: 4 crates, now rules",
         "proved drawlayer, 4 of 4 ( s so far)",
     ];
     assert_eq!(told, expected);
@@ -481,11 +546,14 @@ mv ../drawlayer target/bin";
 /// The reader of texts is proved when a text is drawn.
 #[test]
 fn only_what_is_needed_is_built() {
-    let s = Scratch::new("only_what_is_needed_is_built");
-    s.input("x.part", &part());
-    s.input("y.txt", b"x");
-    s.script("bin/rt", "echo \"$*\" > ../asked; echo 'rt: ok'");
-    for (name, asked) in [("x.part", "check drawlayer\n"), ("y.txt", "check drawlayer readtext\n")] {
+    for (name, asked) in [("x.part", "run drawlayer\n"), ("y.txt", "run drawlayer\nrun readtext\n")] {
+        let s = Scratch::new("only_what_is_needed_is_built");
+        s.input("x.part", &part());
+        s.input("y.txt", b"x");
+        s.script("bin/rt", "echo \"$* ${PWD##*/}\" >> ../../../asked");
+        s.draw(&[name]);
+        assert_eq!(fs::read_to_string(s.at("asked")).unwrap(), asked);
+        // what is in its place and newer than every source is built
         s.draw(&[name]);
         assert_eq!(fs::read_to_string(s.at("asked")).unwrap(), asked);
     }
