@@ -9,8 +9,8 @@ ghost use Rattle.patches.specs.Patches.{nothing, bytes_in, joined, BytesSet, Par
 use picture::bits::stride;
 
 fn clear_bytes(picture: &mut [u8], from: usize, to: usize)
-    requires fact_1 { from ≤ to }
-    requires fact_2 { to ≤ length picture.old }
+    requires in_order { from ≤ to }
+    requires end_in_picture { to ≤ length picture.old }
     ensures { BytesSet from to nothing picture.old picture.new }
 {
     let mut i = from;
@@ -21,8 +21,8 @@ fn clear_bytes(picture: &mut [u8], from: usize, to: usize)
 }
 
 pub fn clear_part(picture: &mut [u8], width: usize, x: usize, y: usize, xend: usize, yend: usize)
-    requires fact_1 { Within width x xend yend picture.old }
-    requires fact_2 { y ≤ yend }
+    requires within { Within width x xend yend picture.old }
+    requires rows_in_order { y ≤ yend }
     ensures { PartSet width x xend y yend nothing picture.old picture.new }
 {
     let row = stride(width);
@@ -36,9 +36,9 @@ pub fn clear_part(picture: &mut [u8], width: usize, x: usize, y: usize, xend: us
 }
 
 fn copy_bytes(other: &[u8], picture: &mut [u8], from: usize, to: usize)
-    requires fact_1 { from ≤ to }
-    requires fact_2 { to ≤ length picture.old }
-    requires fact_3 { length other.now ≡ length picture.old }
+    requires in_order { from ≤ to }
+    requires end_in_picture { to ≤ length picture.old }
+    requires same_length { length other.now ≡ length picture.old }
     ensures { BytesSet from to (bytes_in other.now) picture.old picture.new }
 {
     let mut i = from;
@@ -57,8 +57,8 @@ pub fn copy_part(
     xend: usize,
     yend: usize,
 )
-    requires within_1 { Within width x xend yend picture.old }
-    requires within_2 { y ≤ yend }
+    requires within { Within width x xend yend picture.old }
+    requires rows_in_order { y ≤ yend }
     requires other_len { length other.now ≡ length picture.old }
     ensures { PartSet width x xend y yend (bytes_in other.now)
         picture.old picture.new }
@@ -74,9 +74,9 @@ pub fn copy_part(
 }
 
 fn join_bytes(other: &[u8], picture: &mut [u8], from: usize, to: usize)
-    requires fact_1 { from ≤ to }
-    requires fact_2 { to ≤ length picture.old }
-    requires fact_3 { length other.now ≡ length picture.old }
+    requires in_order { from ≤ to }
+    requires end_in_picture { to ≤ length picture.old }
+    requires same_length { length other.now ≡ length picture.old }
     ensures { BytesSet from to (joined picture.old other.now)
         picture.old picture.new }
 {
@@ -96,8 +96,8 @@ pub fn join_part(
     xend: usize,
     yend: usize,
 )
-    requires within_1 { Within width x xend yend picture.old }
-    requires within_2 { y ≤ yend }
+    requires within { Within width x xend yend picture.old }
+    requires rows_in_order { y ≤ yend }
     requires other_len { length other.now ≡ length picture.old }
     ensures { PartSet width x xend y yend (joined picture.old other.now)
         picture.old picture.new }

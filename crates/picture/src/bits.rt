@@ -35,8 +35,8 @@ fn paint(picture: &mut [u8], at: usize, byte: u8)
 
 // The byte with a 1 at its first `count` pixels alone.
 fn first_pixels(count: usize) -> u8
-    requires fact_1 { 1 ≤ count }
-    requires fact_2 { count ≤ 8 }
+    requires some { 1 ≤ count }
+    requires in_byte { count ≤ 8 }
     ensures { (k : ℕ) → k < 8 → bit (7 - k) result ≡ when (ltb k count) 1 }
 {
     ((65280u32 >> count) & 255) as u8
@@ -53,8 +53,8 @@ pub fn with_pixel(byte: u8, k: u32, on: bool) -> u8
 
 // Makes `count` pixels material, from the highest bit of byte `at` on: whole bytes, then the first pixels of the last.
 fn fill_row(picture: &mut [u8], at: usize, count: usize)
-    requires fact_1 { 1 ≤ count }
-    requires fact_2 { 8 * at + count ≤ 8 * length picture.old }
+    requires some { 1 ≤ count }
+    requires row_in_picture { 8 * at + count ≤ 8 * length picture.old }
     ensures marked { Marked (8 * at) (replicate count true) picture.old picture.new }
     ensures kept_outside { KeptOutside at (at + (count + 7) / 8) picture.old picture.new }
 {
@@ -70,8 +70,8 @@ fn fill_row(picture: &mut [u8], at: usize, count: usize)
 
 // Makes a rectangle of pixels material.
 pub fn fill_rect(picture: &mut [u8], width: usize, x: usize, y: usize, xend: usize, yend: usize)
-    requires fact_1 { Within width x xend yend picture.old }
-    requires fact_2 { y ≤ yend }
+    requires within { Within width x xend yend picture.old }
+    requires rows_in_order { y ≤ yend }
     ensures by_index { (n : ℕ) (h : List ℕ) → Shows width n picture.old h
         → Shows width n picture.new (raise_rows (yend - y) width (y * width + x) (xend - x) 1 h) }
     ensures apart { Apart width x xend y yend picture.old picture.new }
@@ -96,8 +96,8 @@ fn store(picture: &mut [u8], at: usize, byte: u8)
 
 // Stores the byte of a row of samples, from pixel `x` of row `y` on, with its final bits: no spare bit is set.
 pub fn store_row(picture: &mut [u8], width: usize, x: usize, y: usize, byte: u8)
-    requires fact_1 { Within width x (x + 1) (y + 1) picture.old }
-    requires fact_2 { SpareZero width x byte }
+    requires within { Within width x (x + 1) (y + 1) picture.old }
+    requires spare_zero { SpareZero width x byte }
     ensures { StoredRow width x y byte picture.old picture.new }
 {
     store(picture, y * stride(width) + x / 8, byte);

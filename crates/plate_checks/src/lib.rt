@@ -25,8 +25,8 @@ pub fn check_memory(memory: &[u8]) -> Answer
 }
 
 fn is_empty(memory: &[u8], place: usize) -> bool
-    requires fact_1 { length memory.now ≡ plate_size }
-    requires fact_2 { place < places }
+    requires memory_len { length memory.now ≡ plate_size }
+    requires place_in_memory { place < places }
     ensures { result ≡ all_zero (place_at place memory.now) }
 {
     let start = place * PLACE_SIZE;

@@ -83,8 +83,8 @@ fn copy_front(out: &mut [u8], bytes: &[u8])
 }
 
 fn fill_place(place: &mut [u8], tape: &[u8])
-    requires fact_1 { length place.old ≡ place_size }
-    requires fact_2 { length tape.now ≤ place_size }
+    requires place_len { length place.old ≡ place_size }
+    requires tape_in_place { length tape.now ≤ place_size }
     ensures { place.new ≡ padded tape.now }
 {
     clear(place);
@@ -92,9 +92,9 @@ fn fill_place(place: &mut [u8], tape: &[u8])
 }
 
 pub fn store_tape(memory: &mut [u8], place: usize, tape: &[u8])
-    requires fact_1 { length memory.old ≡ plate_size }
-    requires fact_2 { place < places }
-    requires fact_3 { length tape.now ≤ place_size }
+    requires memory_len { length memory.old ≡ plate_size }
+    requires place_in_memory { place < places }
+    requires tape_in_place { length tape.now ≤ place_size }
     ensures { memory.new ≡ stored place (padded tape.now) memory.old }
 {
     let start = place * PLACE_SIZE;
@@ -102,8 +102,8 @@ pub fn store_tape(memory: &mut [u8], place: usize, tape: &[u8])
 }
 
 pub fn empty_place(memory: &mut [u8], place: usize)
-    requires fact_1 { length memory.old ≡ plate_size }
-    requires fact_2 { place < places }
+    requires memory_len { length memory.old ≡ plate_size }
+    requires place_in_memory { place < places }
     ensures { memory.new ≡ stored place zeros memory.old }
 {
     let start = place * PLACE_SIZE;

@@ -101,8 +101,8 @@ pub fn join_cell(other: &[u8], picture: &mut [u8], grid: Grid, cell: Cell)
 }
 
 fn clear_turn(grid: Grid, m: u32, mark: u8, picture: &mut [u8])
-    requires fact_1 { Ready false grid picture.old }
-    requires fact_2 { ForTile grid m }
+    requires ready { Ready false grid picture.old }
+    requires for_tile { ForTile grid m }
     ensures { TilesSet grid (Turn m mark) nothing picture.old picture.new }
 {
     if mark == 0 {
@@ -112,8 +112,8 @@ fn clear_turn(grid: Grid, m: u32, mark: u8, picture: &mut [u8])
 }
 
 pub fn clear_tiles(grid: Grid, marks: &[u8], picture: &mut [u8])
-    requires fact_1 { Ready false grid picture.old }
-    requires fact_2 { length marks.now ≡ tile_limit }
+    requires ready { Ready false grid picture.old }
+    requires marks_len { length marks.now ≡ tile_limit }
     ensures { TilesSet grid (Marked marks.now (tile_count grid)) nothing
         picture.old picture.new }
 {

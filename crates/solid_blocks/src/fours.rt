@@ -38,7 +38,7 @@ fn visit_four(
     requires slots_len { length slots.old ≡ block_rows }
     ensures visits { Visits true 65 code.now grid below4 (region_in cell)
         picture.old picture.new result }
-    ensures slots_len_2 { length slots.new ≡ block_rows }
+    ensures slots_stay { length slots.new ≡ block_rows }
 {
     let room = mark_room(whole.len());
     let base = whole.len() + 2 * room;
@@ -72,7 +72,7 @@ pub fn fours(
     requires whole_in_bounds { length whole.now ≤ length choices.old }
     ensures folds { Folds true (64 * 65) code.now grid below4 (children_in parent 4)
         picture.old picture.new result }
-    ensures slots_len_2 { length slots.new ≡ block_rows }
+    ensures slots_stay { length slots.new ≡ block_rows }
 {
     let mut ends = [[0i32; 8]; ENDS];
     let mut count: u64 = 0;

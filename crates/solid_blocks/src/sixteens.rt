@@ -47,7 +47,7 @@ fn inside(
         picture.old work.old second.now third.old choices.old }
     requires slots_len { length slots.old ≡ block_rows }
     ensures inside { Inside seen grid cell second.now picture.old picture.new result }
-    ensures slots_len_2 { length slots.new ≡ block_rows }
+    ensures slots_stay { length slots.new ≡ block_rows }
 {
     match seen {
         Seen::Done(_) => 0,
@@ -77,7 +77,7 @@ pub fn sixteens(
     requires for_sixteens { ForSixteens 64 whole.now code.now grid parent
         picture.old work.old second.old third.old }
     requires whole_in_bounds { length whole.now ≤ length choices.old }
-    requires whole_in_bounds_2 { length whole.now ≤ length below.old }
+    requires whole_in_below { length whole.now ≤ length below.old }
     ensures { Folds true (64 * 4161) code.now grid below16 (children_in parent 16)
         picture.old picture.new result }
 {

@@ -26,7 +26,7 @@ pub fn sample_layers(
     ensures folds { Folds true 64 code.now grid []
         (along_z 4 4 parent.x parent.y parent.z 1 parent.xend parent.yend parent.zend)
         picture.old picture.new result }
-    ensures slots_len_2 { length slots.new ≡ block_rows }
+    ensures slots_stay { length slots.new ≡ block_rows }
 {
     let xs = columns(lane_samples(grid.xorigin, grid.xstep, parent.x, parent.xend));
     let rows = lane_samples(grid.yorigin, grid.ystep, parent.y, parent.yend);

@@ -19,7 +19,7 @@ pub fn raised(now: u16, height: u16, value: i32) -> u16
 // The heights of four pixels from `lower` on and of four from `upper` on.
 fn heights(picture: &[u16], lower: usize, upper: usize) -> [u16; 8]
     requires four_from { FourFrom lower picture.now }
-    requires four_from_2 { FourFrom upper picture.now }
+    requires four_from_upper { FourFrom upper picture.now }
     ensures { result ≡ heights_of picture.now lower upper }
 {
     [

@@ -58,8 +58,8 @@ fn turn_tiles(
 
 // "Picture bytes outside the rectangle stay."
 fn lay(drawn: &[u8], picture: &mut [u8], grid: Grid, rectangle: Rectangle)
-    requires in_grid_1 { InGrid grid rectangle }
-    requires in_grid_2 { length picture.old ≡ size_in false grid }
+    requires in_grid { InGrid grid rectangle }
+    requires picture_len { length picture.old ≡ size_in false grid }
     requires drawn_len { length drawn.now ≡ length picture.old }
     ensures { picture.new
         ≡ laid (grid_in grid false) (rectangle_in rectangle) drawn.now picture.old }

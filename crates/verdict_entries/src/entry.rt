@@ -29,8 +29,8 @@ fn entry_byte(verdict: u8, marks: &[u8], p: usize) -> u8
 
 // The whole entry is written.
 pub fn put_entry(table: &mut [u8], at: usize, verdict: u8, marks: &[u8])
-    requires fact_1 { at + entry_length ≤ length table.old }
-    requires fact_2 { length marks.now ≤ mark_room }
+    requires entry_in_table { at + entry_length ≤ length table.old }
+    requires marks_fit { length marks.now ≤ mark_room }
     ensures { table.new ≡ over at (verdict ∷ padded marks.now) table.old }
 {
     let mut p = 0;

@@ -54,7 +54,7 @@ pub fn write_head(out: &mut [u8], tape: &[u8], grid: Grid)
 // The first `count` bytes of both.
 fn same_front(a: &[u8], b: &[u8], count: usize) -> bool
     requires count_in_bounds { count ≤ length a.now }
-    requires count_in_bounds_2 { count ≤ length b.now }
+    requires count_in_b { count ≤ length b.now }
     ensures { result ≡ same_bytes (take count a.now) (take count b.now) }
 {
     let mut i = 0;

@@ -14,14 +14,14 @@ fits : (c : After-copy_bytes-arg-1)
     × (c.loop-j.j * c.stride-row.result + (a.xend + 7) / 8 ≤ length c.loop-j.picture))
 fits c =
     let a = c.args in
-    let e = row_ends a.width a.x a.xend a.yend c.loop-j.j _ c.requires.within_1 (omega arith) in
+    let e = row_ends a.width a.x a.xend a.yend c.loop-j.j _ c.requires.within (omega arith) in
     omega (arith, e, c.loop-j.invariant.1.0, ap (λ s. c.loop-j.j * s) c.stride-row.ensures)
 
 pub stride-row-requires : goal.stride-row-requires
-stride-row-requires c = c.requires.within_1.narrow
+stride-row-requires c = c.requires.within.narrow
 
 pub overflow_add-end : goal.overflow_add-end
-overflow_add-end c = let p = c.requires.within_1 in omega (arith, p.narrow, p.columns)
+overflow_add-end c = let p = c.requires.within in omega (arith, p.narrow, p.columns)
 
 pub loop-j-init : goal.loop-j-init
 loop-j-init c = (omega arith, (refl, part_none _ _ _ _ _ _))
@@ -40,14 +40,14 @@ overflow_add-j-in-loop-j c = omega (arith, fits c)
 
 pub copy_bytes-requires : goal.copy_bytes-requires
 copy_bytes-requires c = record {
-  fact_1 = (fits c).0;
-  fact_2 = (fits c).1;
-  fact_3 = c.requires.other_len ∙ sym c.loop-j.invariant.1.0;
+  in_order = (fits c).0;
+  end_in_picture = (fits c).1;
+  same_length = c.requires.other_len ∙ sym c.loop-j.invariant.1.0;
 }
 
 pub loop-j-preserved : goal.loop-j-preserved
 loop-j-preserved c =
-    let p = c.requires.within_1 in (
+    let p = c.requires.within in (
       omega arith,
       (
         c.copy_bytes.auto.picture ∙ c.loop-j.invariant.1.0,

@@ -76,10 +76,10 @@ store_tape-requires c =
     let faultless : (places_fault (places_of c.args.memory.now)).number ≡ 0 = let a = c.args in places_clear a.memory.now a.picture.now a.work.now c.check_memory-checked.ensures c.if-checked-ne0.false in
     let read : (read_tape c.args.tape.now).number ≡ 0 = sym c.check_tape-read.ensures.number ∙ c.if-read-ne0.false in
     let a = c.args in record {
-      fact_1 = size;
-      fact_2 = add_in_plate a.place a.tape.now a.grid a.memory.now a.picture.now a.work.now size
+      memory_len = size;
+      place_in_memory = add_in_plate a.place a.tape.now a.grid a.memory.now a.picture.now a.work.now size
           faultless c.free_fault.ensures c.if-free_fault-ne0.false;
-      fact_3 = tape_fits a.tape.now read;
+      tape_in_place = tape_fits a.tape.now read;
     }
 
 pub returns : goal.returns

@@ -57,8 +57,8 @@ empty_place-requires c =
     let size : length c.args.memory.now ≡ plate_size = let a = c.args in memory_size a.memory.now a.picture.now a.work.now c.check_memory-checked.ensures c.if-checked-ne0.false in
     let faultless : (places_fault (places_of c.args.memory.now)).number ≡ 0 = let a = c.args in places_clear a.memory.now a.picture.now a.work.now c.check_memory-checked.ensures c.if-checked-ne0.false in
     let a = c.args in record {
-      fact_1 = size;
-      fact_2 = remove_in_plate a.place a.grid a.memory.now a.picture.now a.work.now size
+      memory_len = size;
+      place_in_memory = remove_in_plate a.place a.grid a.memory.now a.picture.now a.work.now size
           faultless c.taken_fault.ensures c.if-taken_fault-ne0.false;
     }
 

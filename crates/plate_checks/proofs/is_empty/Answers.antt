@@ -11,4 +11,4 @@ slice_bounds-all_zero-end c = omega (arith, place_size_lem)
 
 pub returns : goal.returns
 returns c =
-    c.all_zero.ensures ∙ ap all_zero (place_bytes c.args.memory.now c.args.place c.requires.fact_2)
+    c.all_zero.ensures ∙ ap all_zero (place_bytes c.args.memory.now c.args.place c.requires.place_in_memory)

@@ -14,5 +14,5 @@ pub returns : goal.returns
 returns c =
     let a = c.args in
     ap (λ b. put_mid (a.place * 65536) (a.place * 65536 + 65536 - a.place * 65536) a.memory.now b)
-    (zeros_of _ _ c.clear.ensures (part_size a.place a.memory.now c.requires.fact_1 c.requires.fact_2 ∙ place_size_lem))
+    (zeros_of _ _ c.clear.ensures (part_size a.place a.memory.now c.requires.memory_len c.requires.place_in_memory ∙ place_size_lem))
     ∙ stored_part a.place (a.place * 65536 + 65536 - a.place * 65536) _ a.memory.now (omega arith)

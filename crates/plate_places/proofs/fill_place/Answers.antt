@@ -4,5 +4,5 @@ use Rattle.plate_places.proofs.fill_place.Goals as goal
 
 pub returns : goal.returns
 returns c =
-    fill_padded _ c.clear.new.picture _ _ c.clear.ensures c.requires.fact_1
+    fill_padded _ c.clear.new.picture _ _ c.clear.ensures c.requires.place_len
     c.copy_front.ensures

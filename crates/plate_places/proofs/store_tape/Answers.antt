@@ -12,8 +12,8 @@ slice_bounds-fill_place-end c = omega (arith, place_size_lem)
 
 pub fill_place-requires : goal.fill_place-requires
 fill_place-requires c = record {
-  fact_1 = part_size _ _ c.requires.fact_1 c.requires.fact_2;
-  fact_2 = c.requires.fact_3;
+  place_len = part_size _ _ c.requires.memory_len c.requires.place_in_memory;
+  tape_in_place = c.requires.tape_in_place;
 }
 
 pub returns : goal.returns

@@ -8,8 +8,8 @@ fill_rect-requires c =
     let p = c.requires in
     let x = p.cell.xs in
     let y = p.cell.ys in record {
-      fact_1 = pixels_in _ _ _ p.ready p.even x.some x.in_grid (omega (arith, y));
-      fact_2 = omega (arith, y);
+      within = pixels_in _ _ _ p.ready p.even x.some x.in_grid (omega (arith, y));
+      rows_in_order = omega (arith, y);
     }
 
 pub returns : goal.returns

@@ -19,9 +19,9 @@ pub store_row-requires : goal.store_row-requires
 store_row-requires c =
     let p = c.requires in
     let k = p.ok in record {
-      fact_1 = pixels_in _ _ _ p.ready p.start (omega (arith, k.xs)) (omega (arith, k.xs))
+      within = pixels_in _ _ _ p.ready p.start (omega (arith, k.xs)) (omega (arith, k.xs))
           (omega (arith, k.ys, p.row));
-      fact_2 = samples_spare k _ _ _ (c.sign_byte-byte.ensures.byte _ (p.signs p.sound.slots p.sound.accepted));
+      spare_zero = samples_spare k _ _ _ (c.sign_byte-byte.ensures.byte _ (p.signs p.sound.slots p.sound.accepted));
     }
 
 pub overflow_sub-result : goal.overflow_sub-result

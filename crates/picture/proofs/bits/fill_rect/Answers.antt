@@ -10,10 +10,10 @@ use Rattle.picture.proofs.bits.fill_rect.Goals.{After-fill_row-arg-1}
 use Rattle.picture.proofs.bits.fill_rect.Goals as goal
 
 pub stride-row-requires : goal.stride-row-requires
-stride-row-requires c = c.requires.fact_1.narrow
+stride-row-requires c = c.requires.within.narrow
 
 pub overflow_sub-count : goal.overflow_sub-count
-overflow_sub-count c = omega (arith, c.requires.fact_1.some)
+overflow_sub-count c = omega (arith, c.requires.within.some)
 
 pub loop-j-init : goal.loop-j-init
 loop-j-init c =
@@ -38,7 +38,7 @@ row_fits c =
     let m = c.loop-j in
     let a = c.args in
     rw (c.stride-row.ensures, m.invariant.1.0)
-    (row_in a.width a.x a.xend a.yend m.j a.picture.now c.requires.fact_1 (omega arith))
+    (row_in a.width a.x a.xend a.yend m.j a.picture.now c.requires.within (omega arith))
 
 pub overflow_mul-j : goal.overflow_mul-j
 overflow_mul-j c = omega (arith, row_fits c)
@@ -48,15 +48,15 @@ overflow_add-j c = omega (arith, row_fits c)
 
 pub fill_row-requires : goal.fill_row-requires
 fill_row-requires c = record {
-  fact_1 = omega (arith, c.requires.fact_1.some);
-  fact_2 = row_fits c;
+  some = omega (arith, c.requires.within.some);
+  row_in_picture = row_fits c;
 }
 
 pub loop-j-preserved : goal.loop-j-preserved
 loop-j-preserved c =
     let m = c.loop-j in
     let a = c.args in
-    let p = c.requires.fact_1 in (
+    let p = c.requires.within in (
       omega arith,
       (
         c.fill_row.auto.picture ∙ m.invariant.1.0,

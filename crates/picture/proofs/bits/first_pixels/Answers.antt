@@ -13,4 +13,4 @@ pub overflow_cast-result-2 : goal.overflow_cast-result-2
 overflow_cast-result-2 c = search masked
 
 pub returns : goal.returns
-returns c = λ k o. first_bits c.args.count k c.requires.fact_1 c.requires.fact_2 o
+returns c = λ k o. first_bits c.args.count k c.requires.some c.requires.in_byte o

@@ -12,7 +12,7 @@ placed : (c : After-stride) → c.args.y * c.stride.result
 placed c =
     let a = c.args in
     rw c.stride.ensures
-    (omega (arith, row_in a.width a.x (a.x + 1) (a.y + 1) a.y a.picture.now c.requires.fact_1 (omega arith)))
+    (omega (arith, row_in a.width a.x (a.x + 1) (a.y + 1) a.y a.picture.now c.requires.within (omega arith)))
 
 pub overflow_mul-y : goal.overflow_mul-y
 overflow_mul-y c = omega (arith, placed c)
@@ -28,4 +28,4 @@ returns c =
     let a = c.args in
     rw (c.store.ensures, c.stride.ensures)
     (stored a.width a.x a.y a.byte a.picture.now (rw c.stride.ensures at (placed c.before.before.before.before))
-    c.requires.fact_2)
+    c.requires.spare_zero)

@@ -4,6 +4,6 @@ use Rattle.plate_tiles.proofs.tiles.clear_cell.Goals as goal
 
 pub clear_part-requires : goal.clear_part-requires
 clear_part-requires c = record {
-  fact_1 = (to_patch c.requires).0;
-  fact_2 = (to_patch c.requires).1;
+  within = (to_patch c.requires).0;
+  rows_in_order = (to_patch c.requires).1;
 }

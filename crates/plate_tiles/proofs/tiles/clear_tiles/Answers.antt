@@ -15,11 +15,11 @@ more : (c : In-loop-m)
     → (let g = c.args.grid in (c.loop-m.m < tile_count g) × (tile_count g ≤ 64))
 more c = (
   omega (arith, c.tile_count-end.ensures, c.loop-m-test.true),
-  few_tiles {grid = c.args.grid} (record { fault = c.requires.fact_1.fault }),
+  few_tiles {grid = c.args.grid} (record { fault = c.requires.ready.fault }),
 )
 
 pub tile_count-end-requires : goal.tile_count-end-requires
-tile_count-end-requires c = record { fault = c.requires.fact_1.fault }
+tile_count-end-requires c = record { fault = c.requires.ready.fault }
 
 pub loop-m-init : goal.loop-m-init
 loop-m-init c =
@@ -30,21 +30,21 @@ overflow_cast-m c = omega (arith, more c)
 
 pub bounds-marks-m : goal.bounds-marks-m
 bounds-marks-m c =
-    let more : (let g = c.args.grid in (c.loop-m.m < tile_count g) × (tile_count g ≤ 64)) = (omega (arith, c.tile_count-end.ensures, c.loop-m-test.true), few_tiles {grid = c.args.grid} (record { fault = c.requires.fact_1.fault })) in
-    omega (arith, more, c.requires.fact_2)
+    let more : (let g = c.args.grid in (c.loop-m.m < tile_count g) × (tile_count g ≤ 64)) = (omega (arith, c.tile_count-end.ensures, c.loop-m-test.true), few_tiles {grid = c.args.grid} (record { fault = c.requires.ready.fault })) in
+    omega (arith, more, c.requires.marks_len)
 
 pub clear_turn-requires : goal.clear_turn-requires
 clear_turn-requires c =
-    let more : (let g = c.args.grid in (c.loop-m.m < tile_count g) × (tile_count g ≤ 64)) = (omega (arith, c.tile_count-end.ensures, c.loop-m-test.true), few_tiles {grid = c.args.grid} (record { fault = c.requires.fact_1.fault })) in
-    let p = c.requires.fact_1 in
+    let more : (let g = c.args.grid in (c.loop-m.m < tile_count g) × (tile_count g ≤ 64)) = (omega (arith, c.tile_count-end.ensures, c.loop-m-test.true), few_tiles {grid = c.args.grid} (record { fault = c.requires.ready.fault })) in
+    let p = c.requires.ready in
     record {
-      fact_1 = ready_again p c.loop-m.invariant.1;
-      fact_2 = record { sized = record { fault = p.fault }; more = more.0 };
+      ready = ready_again p c.loop-m.invariant.1;
+      for_tile = record { sized = record { fault = p.fault }; more = more.0 };
     }
 
 pub overflow_add-m : goal.overflow_add-m
 overflow_add-m c =
-    let more : (let g = c.args.grid in (c.loop-m.m < tile_count g) × (tile_count g ≤ 64)) = (omega (arith, c.tile_count-end.ensures, c.loop-m-test.true), few_tiles {grid = c.args.grid} (record { fault = c.requires.fact_1.fault })) in
+    let more : (let g = c.args.grid in (c.loop-m.m < tile_count g) × (tile_count g ≤ 64)) = (omega (arith, c.tile_count-end.ensures, c.loop-m-test.true), few_tiles {grid = c.args.grid} (record { fault = c.requires.ready.fault })) in
     omega (arith, more)
 
 pub loop-m-smaller : goal.loop-m-smaller

@@ -9,9 +9,9 @@ pub returns-then-mark-eq0 : goal.returns-then-mark-eq0
 returns-then-mark-eq0 c = no_turn _ _ _ nothing _ c.if-mark-eq0.true
 
 pub clear_cell-requires : goal.clear_cell-requires
-clear_cell-requires c = tile_patch c.requires.fact_1 c.tile.ensures
+clear_cell-requires c = tile_patch c.requires.ready c.tile.ensures
 
 pub returns : goal.returns
 returns c =
-    cell_turn c.requires.fact_2.sized c.tile.ensures _ c.if-mark-eq0.false nothing nothing
+    cell_turn c.requires.for_tile.sized c.tile.ensures _ c.if-mark-eq0.false nothing nothing
     c.clear_cell.ensures (λ y x l o h. refl)

@@ -6,7 +6,7 @@ pub join_part-requires : goal.join_part-requires
 join_part-requires c =
     let t = to_patch c.requires.for_patch in
     record {
-      within_1 = t.0;
-      within_2 = t.1;
+      within = t.0;
+      rows_in_order = t.1;
       other_len = c.requires.other_len;
     }

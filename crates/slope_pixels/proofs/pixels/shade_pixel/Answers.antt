@@ -152,5 +152,5 @@ returns c = let a = c.args in
           (c.put.ensures
           ∙ put_words a.slopes.now (a.pixel.y * a.grid.width + a.pixel.x) (value_fits _ v.x)
           (value_fits _ v.y) (value_fits _ v.z));
-      sized = f.sized_2;
+      sized = f.sized_after;
     }

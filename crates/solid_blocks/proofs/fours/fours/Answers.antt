@@ -157,7 +157,7 @@ loop-m-preserved c =
       child_again i.0 c.child-cell.ensures (more (goal.at.loop-m-preserved c).In-loop-m) v.ensures.visits c.visit_four-count.auto.picture,
       c.visit_four-count.auto.work ∙ i.1,
       c.visit_four-count.auto.third ∙ i.2,
-      v.ensures.slots_len_2,
+      v.ensures.slots_stay,
       r.auto.choices ∙ i.4,
       r.ensures.ran,
     )
@@ -179,5 +179,5 @@ returns c =
     let e = c.child_count-end.ensures in
     let i = c.loop-m.invariant in record {
       folds = child_done i.0 64 (64 * 65) (omega (arith, c.loop-m-test.false)) (few (goal.at.returns c).Start) (omega arith);
-      slots_len_2 = i.3;
+      slots_stay = i.3;
     }

@@ -81,7 +81,7 @@ pub returns-in-Done : goal.returns-in-Done
 returns-in-Done c = record {
   visits = done_visits 65 1 [] refl (omega arith)
       (done_of true _ _ _ _ _ _ _ _ _ c.look_lane-seen.ensures c.in-Done.is);
-  slots_len_2 = c.requires.slots_len;
+  slots_stay = c.requires.slots_len;
 }
 
 pub returns-in-Open : goal.returns-in-Open
@@ -90,5 +90,5 @@ returns-in-Open c =
     let inside = c.sample_layers-inside.ensures in record {
       visits = open_layers 1 4 p.level.sound (omega arith) (omega arith) p.side (record { ok = p.cell; same = refl })
           p.ready.fault (opened (goal.at.returns-in-Open c).In-Open) [] 64 inside.folds;
-      slots_len_2 = inside.slots_len_2;
+      slots_stay = inside.slots_stay;
     }

@@ -37,11 +37,11 @@ fours-requires c =
 pub returns-in-Done : goal.returns-in-Done
 returns-in-Done c = record {
   inside = inside_done c.in-Done.is;
-  slots_len_2 = c.requires.slots_len;
+  slots_stay = c.requires.slots_len;
 }
 
 pub returns-in-Open : goal.returns-in-Open
 returns-in-Open c = record {
   inside = inside_open c.in-Open.is c.fours.ensures.folds;
-  slots_len_2 = c.fours.ensures.slots_len_2;
+  slots_stay = c.fours.ensures.slots_stay;
 }

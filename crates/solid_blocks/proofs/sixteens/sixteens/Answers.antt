@@ -168,7 +168,7 @@ inside-requires c =
         side = k.side;
         room = omega (arith, p.room, i.1, c.look_lane-seen.auto.work);
         third = omega (arith, p.third, i.3);
-        rows = omega (arith, q.whole_in_bounds_2, i.6);
+        rows = omega (arith, q.whole_in_below, i.6);
         short = short_of _ _ _ _ _ _ _ _ _ p.level c.look_lane-seen.ensures;
       };
       slots_len = i.4;
@@ -199,7 +199,7 @@ loop-m-preserved c =
       c.inside.auto.work ∙ c.look_lane-seen.auto.work ∙ i.1,
       c.look_lane-seen.auto.next ∙ i.2,
       c.inside.auto.third ∙ i.3,
-      u.ensures.slots_len_2,
+      u.ensures.slots_stay,
       v.auto.choices ∙ i.5,
       c.inside.auto.choices ∙ i.6,
       v.ensures.ran,

@@ -30,7 +30,7 @@ overflow_cast-height c =
 pub heights-before-requires : goal.heights-before-requires
 heights-before-requires c = let p = c.requires in record {
   four_from = lower_four p;
-  four_from_2 = upper_four p;
+  four_from_upper = upper_four p;
 }
 
 pub put_four-requires : goal.put_four-requires

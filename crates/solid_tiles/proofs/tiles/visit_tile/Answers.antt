@@ -57,7 +57,7 @@ sixteens-inside-requires c =
         third = p.tile.third;
       };
       whole_in_bounds = p.rows;
-      whole_in_bounds_2 = p.rows_below;
+      whole_in_below = p.rows_below;
     }
 
 pub overflow_add-result : goal.overflow_add-result

@@ -16,8 +16,8 @@ pub lay-requires : goal.lay-requires
 lay-requires c =
     let r = c.requires.for_turn.lent.ready in
     record {
-      in_grid_1 = record { fault = r.fault; ok = c.requires.for_turn.rectangle };
-      in_grid_2 = r.size;
+      in_grid = record { fault = r.fault; ok = c.requires.for_turn.rectangle };
+      picture_len = r.size;
       drawn_len = c.turn_tiles-count.auto.picture ∙ c.requires.apart_len;
     }
 

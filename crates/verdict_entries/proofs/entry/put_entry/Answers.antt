@@ -15,12 +15,12 @@ loop-p-init c = (omega arith, (refl, set_begins _ _ _))
 pub overflow_add-table : goal.overflow_add-table
 overflow_add-table c =
     let m = c.loop-p in
-    omega (arith, m.invariant.1.0, c.requires.fact_1, c.well_formed, c.loop-p-test.true)
+    omega (arith, m.invariant.1.0, c.requires.entry_in_table, c.well_formed, c.loop-p-test.true)
 
 pub bounds-table-at : goal.bounds-table-at
 bounds-table-at c =
     let m = c.loop-p in
-    omega (arith, m.invariant.1.0, c.requires.fact_1, c.loop-p-test.true)
+    omega (arith, m.invariant.1.0, c.requires.entry_in_table, c.loop-p-test.true)
 
 pub overflow_add-p : goal.overflow_add-p
 overflow_add-p c = omega (arith, c.loop-p-test.true)
@@ -36,7 +36,7 @@ loop-p-preserved c =
       (
         length-set m.table (a.at + m.p) c.entry_byte-byte.result ∙ m.invariant.1.0,
         set_again a.at m.p c.entry_byte-byte.result (a.verdict ∷ padded a.marks.now) a.table.now m.table
-            (omega (arith, m.invariant.1.0, c.requires.fact_1, c.loop-p-test.true)) c.entry_byte-byte.ensures
+            (omega (arith, m.invariant.1.0, c.requires.entry_in_table, c.loop-p-test.true)) c.entry_byte-byte.ensures
             m.invariant.1.1,
       ),
     )
@@ -50,6 +50,6 @@ returns c =
     let a = c.args in
     let e : m.p ≡ entry_length = omega (arith, m.invariant.0, c.loop-p-test.false) in
     over_set a.at (a.verdict ∷ padded a.marks.now) a.table.now m.table
-    (ap suc (padded_length a.marks.now c.requires.fact_2)) c.requires.fact_1 m.invariant.1.0
+    (ap suc (padded_length a.marks.now c.requires.marks_fit)) c.requires.entry_in_table m.invariant.1.0
     (subst (λ (p : ℕ). BytesSet a.at (a.at + p) (λ j. get_or (a.verdict ∷ padded a.marks.now) (j - a.at) 0) a.table.now
     m.table) e m.invariant.1.1)

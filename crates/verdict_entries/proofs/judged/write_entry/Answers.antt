@@ -30,8 +30,8 @@ pub put_entry-requires : goal.put_entry-requires
 put_entry-requires c =
     let room : c.kept_room.result ≤ mark_room (length c.args.whole.now) = room_most (eqb c.tile_verdict-verdict.result 3) _ _ c.kept_room.ensures in
     let t = c.requires.tile in record {
-      fact_1 = omega (arith, c.entry_at.ensures, c.requires.size, t.more, few_tiles t.sized);
-      fact_2 = part_most (length c.args.whole.now) 1536 c.kept_room.result _ (omega (arith, room, c.requires.level.kept.kept.within));
+      entry_in_table = omega (arith, c.entry_at.ensures, c.requires.size, t.more, few_tiles t.sized);
+      marks_fit = part_most (length c.args.whole.now) 1536 c.kept_room.result _ (omega (arith, room, c.requires.level.kept.kept.within));
     }
 
 pub returns : goal.returns
