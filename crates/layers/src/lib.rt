@@ -1,5 +1,7 @@
 // The public calls, each the call of its own crate. What they promise is in `crates/promises/specs/Says.antt`,
 // and for a plate in `Plates.antt` beside it.
+#![tactic(auto)]
+
 ghost use Rattle.std.specs.Prelude.{true, false};
 ghost use Rattle.promises.specs.Plates.{AddSays, RemoveSays};
 ghost use Rattle.promises.specs.Says.{PackSays, UnpackSays, FullSays, TilesSay, SlopesSay, BitmapSays, HeightsSay};

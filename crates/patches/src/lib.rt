@@ -38,7 +38,7 @@ pub fn clear_part(picture: &mut [u8], width: usize, x: usize, y: usize, xend: us
 fn copy_bytes(other: &[u8], picture: &mut [u8], from: usize, to: usize)
     requires in_order { from ≤ to }
     requires end_in_picture { to ≤ length picture.old }
-    requires same_length { length other.now ≡ length picture.old }
+    requires other_len { length other.now ≡ length picture.old }
     ensures { BytesSet from to (bytes_in other.now) picture.old picture.new }
 {
     let mut i = from;
@@ -76,7 +76,7 @@ pub fn copy_part(
 fn join_bytes(other: &[u8], picture: &mut [u8], from: usize, to: usize)
     requires in_order { from ≤ to }
     requires end_in_picture { to ≤ length picture.old }
-    requires same_length { length other.now ≡ length picture.old }
+    requires other_len { length other.now ≡ length picture.old }
     ensures { BytesSet from to (joined picture.old other.now)
         picture.old picture.new }
 {

@@ -24,7 +24,7 @@ pub record ListedFrom (m end : ℕ) (r : List ℕ) : Type 0 where
   pub first : get_or r 0 0 ≡ m
   pub there : (k : ℕ) → k < lane_count → get_or r k 0 < end
 
--- A lane that has the number m, or laneCount.
+-- A lane that has the number m, or `lane_count`.
 pub record Found (ns : List ℕ) (m r : ℕ) : Type 0 where
   pub few : r ≤ lane_count
   pub own : r < lane_count → get_or ns r 0 ≡ m

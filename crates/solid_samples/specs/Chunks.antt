@@ -1,5 +1,5 @@
 -- The samples of a region of side 4 in chunks: two rows by four pixels of one layer, from the top layer down and in a
--- layer upward. Chunk m, counted in this order, has the rows chunkY and chunkY + 1 of the layer chunkZ.
+-- layer upward. Chunk m, counted in this order, has the rows `chunk_y` and `chunk_y` + 1 of the layer `chunk_z`.
 use Rattle.std.specs.Prelude.{◌≡◌, true, List, [], ◌∷◌, ◌++◌, ℕ, ◌+◌, ◌-◌, ◌*◌, ◌/◌, ◌%◌, ◌≤◌, ◌<◌, ltb, ℤ, length, get_or}
 use Rattle.rules.specs.Values.{pick}
 use Rattle.rules.specs.Drawings.{Region, along_x, sample_at, at}

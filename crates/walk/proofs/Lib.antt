@@ -1,7 +1,7 @@
 -- Laws by which the drawings by tiles are proved. A level ensures `Visits` of its region, and a loop over children
--- `Folds` of a row of them (alongX), of rows (alongY) or of layers (alongZ). A loop's invariant is `AtColumn`, `AtRow`
--- or `AtLayer` (Loops): it begins, holds again after a turn and is done by one law each. A level cites the law of its
--- case (LookLaws), and the whole drawing `walk_shown` (WalkLaws).
+-- `Folds` of a row of them (`along_x`), of rows (`along_y`) or of layers (`along_z`). A loop's invariant is `AtColumn`,
+-- `AtRow` or `AtLayer` (Loops): it begins, holds again after a turn and is done by one law each. A level cites the law of
+-- its case (LookLaws), and the whole drawing `walk_shown` (WalkLaws).
 pub mod Draws
 pub mod Along
 pub mod Filling

@@ -42,7 +42,7 @@ pub join_bytes-requires : goal.join_bytes-requires
 join_bytes-requires c = record {
   in_order = (fits c).0;
   end_in_picture = (fits c).1;
-  same_length = c.requires.other_len ∙ sym c.loop-j.invariant.1.0;
+  other_len = c.requires.other_len ∙ sym c.loop-j.invariant.1.0;
 }
 
 pub loop-j-preserved : goal.loop-j-preserved
