@@ -142,8 +142,9 @@ is_placed() {
 
 place() {
     place_of "$1"
-    # a copy that is cut off is none
-    mkdir -p "${placed%/*}" && cp "$made" "$work/placed" && mv "$work/placed" "$placed"
+    # a copy that is cut off is none; it is as old as what rt has read, so that a later change of a source is seen
+    mkdir -p "${placed%/*}" && cp "$made" "$work/placed" && touch -r "$work/begun" "$work/placed" &&
+        mv "$work/placed" "$placed"
 }
 
 # prove WHAT BUILT COMMAND: has rt prove $goals and build WHAT, by its command run or lib; what is proved already is not
@@ -151,6 +152,7 @@ place() {
 prove() {
     command -v rt > /dev/null ||
         fail "rt is not on the PATH. Install the Rattle kit and put its folder bin on the PATH, then run $script again."
+    : > "$out/build.log"
     due=
     for goal in $goals; do
         is_placed "$goal" || due="$due $goal"
@@ -158,7 +160,6 @@ prove() {
     [ -n "$due" ] || return 0
     goals=$due
     began=$(date +%s)
-    : > "$out/build.log"
     before=
     for kept in "$root"/crates/*/out/rlib/stamp; do
         crate=${kept#"$root/crates/"}
@@ -176,6 +177,7 @@ prove() {
     proving=yes
     {
         for goal in $goals; do
+            : > "$work/begun"
             rt_in "$goal" "$3" &
             echo $! > "$work/rt"
             wait $! && place "$goal"
