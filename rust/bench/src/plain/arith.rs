@@ -43,7 +43,7 @@ pub fn root(a: i32) -> i32 {
     (under.sqrt() + HALF_BELOW).to_bits() as i32
 }
 
-/// The core's root, whose language does not have the machine's: an estimate by two steps of Heron's with one division,
+/// The core's root, which is not the machine's: an estimate by two steps of Heron's with one division,
 /// rounded to 256ths by adding 2^44, which is the root or one more, and one step down.
 #[cfg(feature = "core-root")]
 pub fn root(a: i32) -> i32 {
