@@ -132,19 +132,25 @@ place_of() {
     fi
 }
 
+# Whether a source has changed since this file was made.
+is_changed_since() {
+    [ -n "$(find -L "$root/crates" "$root/crates.txt" -name out -prune -o -type f -newer "$1" -print | head -n 1)" ]
+}
+
 # Whether a crate's goal is in its place, and no source has changed since. So it is behind .ci/run, though rt would prove all
 # crates again: it takes nothing that rt ci has proved.
 is_placed() {
     place_of "$1"
-    [ -e "$placed" ] || return 1
-    [ -z "$(find -L "$root/crates" "$root/crates.txt" -name out -prune -o -type f -newer "$placed" -print | head -n 1)" ]
+    [ -e "$placed" ] && ! is_changed_since "$placed"
 }
 
 place() {
     place_of "$1"
-    # a copy that is cut off is none; it is as old as what rt has read, so that a later change of a source is seen
-    mkdir -p "${placed%/*}" && cp "$made" "$work/placed" && touch -r "$work/begun" "$work/placed" &&
-        mv "$work/placed" "$placed"
+    # a copy that is cut off is none
+    mkdir -p "${placed%/*}" && cp "$made" "$work/placed" || return
+    # what has changed while rt was at work is in the next one
+    ! is_changed_since "$work/begun" || touch -r "$work/begun" "$work/placed"
+    mv "$work/placed" "$placed"
 }
 
 # prove WHAT BUILT COMMAND: has rt prove $goals and build WHAT, by its command run or lib; what is proved already is not
