@@ -1,5 +1,6 @@
 // Reading the input by single reads: io::read_full takes a read that fails for the end.
-ghost use Rattle.std.specs.Prelude.{◌≡◌};
+ghost use Rattle.std.specs.Prelude.{◌≡◌, true, ◌<◌, pos, length};
+ghost use Rattle.std.specs.Io.KnownBytes.{IsAtEnd};
 ghost use Rattle.io.specs.Counts.{IsPrefixLen};
 ghost use Rattle.readtext.specs.Says.{failed};
 
@@ -20,16 +21,19 @@ fn has_failed(got: isize) -> bool
 }
 
 // One read: how many bytes it has read, 0 at the end of the input, and -1 where it fails.
-fn read_some<R: Read>(from: &mut R, room: &mut [u8]) -> isize {
+fn read_some<R: Read>(from: &mut R, room: &mut [u8]) -> isize
+    ensures end { result ≡ pos 0 → 0 < length room.new → IsAtEnd (R.remaining from.new) }
+{
     match from.read(room) {
         Ok(more) => more as isize,
         Err(_) => -1,
     }
 }
 
-// Reads until the input ends, a read fails or there is no more room.
+// Reads until the input ends, a read fails or there is no more room. Only an input that has ended is whole.
 pub fn read_input<R: Read>(from: &mut R, text: &mut [u8]) -> Input
-    ensures { IsPrefixLen result.size text.new }
+    ensures in_bounds { IsPrefixLen result.size text.new }
+    ensures whole { result.whole ≡ true → IsAtEnd (R.remaining from.new) }
 {
     let mut size = 0;
     while size < text.len() {
