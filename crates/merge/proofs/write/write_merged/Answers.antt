@@ -1,26 +1,21 @@
 -- `write::write_merged` meets its contract: the head, the clauses of both tapes, the minimum.
 use mathlib.Core.Path.{refl}
 use native.Mathlib.Omega.{arith}
-use Rattle.merge.proofs.Copying.{first_counted, second_counted, Room, room, written}
-use Rattle.merge.proofs.write.write_merged.Goals.{Start}
+use Rattle.merge.proofs.Copying.{first_counted, second_counted, room, written}
 use Rattle.merge.proofs.write.write_merged.Goals as goal
 
-sizes : (s : Start)
-    → Room s.args.first.now s.args.second.now s.args.one s.args.two s.args.out.now s.requires
-sizes s = room s.args.first.now s.args.second.now s.args.one s.args.two s.args.out.now s.requires
-
 pub overflow_add-both : goal.overflow_add-both
-overflow_add-both c = omega (arith, (sizes c.before.before.before.before.before.before).clauses)
+overflow_add-both c = omega (arith, (room _ _ _ _ _ c.requires).clauses)
 
 pub overflow_add-by : goal.overflow_add-by
-overflow_add-by c = omega (arith, (sizes c.before.before.before.before.before.before.before.before).slots)
+overflow_add-by c = omega (arith, (room _ _ _ _ _ c.requires).slots)
 
 pub overflow_add-both-2 : goal.overflow_add-both-2
-overflow_add-both-2 c = omega (arith, (sizes c.before.before.before.before.before.before.before.before).clauses)
+overflow_add-both-2 c = omega (arith, (room _ _ _ _ _ c.requires).clauses)
 
 pub put_head-requires : goal.put_head-requires
 put_head-requires c =
-    (omega (arith, (sizes c.before.before.before.before.before.before.before.before).bytes), omega (arith, (sizes c.before.before.before.before.before.before.before.before).slots))
+    (omega (arith, (room _ _ _ _ _ c.requires).bytes), omega (arith, (room _ _ _ _ _ c.requires).slots))
 
 pub copy_clauses-requires : goal.copy_clauses-requires
 copy_clauses-requires c =
@@ -28,17 +23,17 @@ copy_clauses-requires c =
       tape = first_counted _ _ _ _ _ c.requires;
       few = omega arith;
       place = omega arith;
-      room = omega (arith, (sizes c.before.before.before.before.before.before.before.before.before.before.before.before).bytes, c.out-1.given);
+      room = omega (arith, (room _ _ _ _ _ c.requires).bytes, c.out-1.given);
     }
 
 pub copy_clauses-requires-2 : goal.copy_clauses-requires-2
 copy_clauses-requires-2 c =
     record {
       tape = second_counted _ _ _ _ _ c.requires;
-      few = omega (arith, (sizes c.before.before.before.before.before.before.before.before.before.before.before.before.before.before.before.before.before).slots);
-      place = omega (arith, (sizes c.before.before.before.before.before.before.before.before.before.before.before.before.before.before.before.before.before).clauses);
+      few = omega (arith, (room _ _ _ _ _ c.requires).slots);
+      place = omega (arith, (room _ _ _ _ _ c.requires).clauses);
       room =
-          omega (arith, (sizes c.before.before.before.before.before.before.before.before.before.before.before.before.before.before.before.before.before).bytes, c.out-1.given, c.out-2-1.given);
+          omega (arith, (room _ _ _ _ _ c.requires).bytes, c.out-1.given, c.out-2-1.given);
     }
 
 pub result_slot-left-requires : goal.result_slot-left-requires
@@ -50,18 +45,18 @@ result_slot-requires c =
 
 pub overflow_add-right : goal.overflow_add-right
 overflow_add-right c =
-    omega (arith, c.result_slot.ensures.1, (sizes c.before.before.before.before.before.before.before.before.before.before.before.before.before.before.before.before.before.before.before.before.before.before).slots)
+    omega (arith, c.result_slot.ensures.1, (room _ _ _ _ _ c.requires).slots)
 
 pub put_minimum-requires : goal.put_minimum-requires
 put_minimum-requires c = record {
   at_bound = omega (
     arith,
-    (sizes c.before.before.before.before.before.before.before.before.before.before.before.before.before.before.before.before.before.before.before.before.before.before.before).bytes,
+    (room _ _ _ _ _ c.requires).bytes,
     c.out-1.given,
     c.out-2-1.given,
     c.out-3-1.given,
   );
-  first_bound = (omega (arith, c.result_slot-left.ensures.1), omega (arith, c.result_slot.ensures.1, (sizes c.before.before.before.before.before.before.before.before.before.before.before.before.before.before.before.before.before.before.before.before.before.before.before).slots));
+  first_bound = (omega (arith, c.result_slot-left.ensures.1), omega (arith, c.result_slot.ensures.1, (room _ _ _ _ _ c.requires).slots));
 }
 
 pub returns : goal.returns

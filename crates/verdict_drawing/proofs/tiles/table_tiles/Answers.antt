@@ -1,9 +1,10 @@
 -- Tile by tile.
 use mathlib.Core.Path.{refl, sym, subst, ◌∙◌}
 use mathlib.Core.Bool.{false}
-use Prim.Native.Nat.{◌*◌, ◌≤◌, ◌<◌}
+use Prim.Native.Nat.{ℕ, ◌*◌, ◌≤◌, ◌<◌}
 use native.Mathlib.Nat.{mul_comm, mul-le-mul_right}
 use native.Mathlib.Omega.{arith}
+use mathlib.Core.List.{List}
 use lib.ListN.{length, get_or}
 use Rattle.rules.specs.Drawings.{flat_bound}
 use Rattle.picture.specs.Shapes.{grid_in}
@@ -12,25 +13,20 @@ use Rattle.flat_tiles.proofs.WalkLaws.{lent_again}
 use Rattle.rectangle.specs.Rectangles.{rectangle_in}
 use Rattle.table_rules.specs.Tables.{tiles_across, tiles_down, tiles_in}
 use Rattle.table_rules.proofs.Numbers.{in_tiles, tiles_rising}
-use Rattle.verdict_drawing.specs.Rects.{InGrid}
+use Rattle.picture.specs.declared.grid.Grid.{Grid}
+use Rattle.rectangle.specs.declared.Rectangle.{Rectangle}
+use Rattle.verdict_drawing.specs.Rects.{InGrid, ForRect}
 use Rattle.verdict_drawing.proofs.Numbering.{few_tiles, tiles_length, clean_all, clean_tile}
 use Rattle.verdict_drawing.proofs.TileLoop.{tile_begins, number_from, number_below, tile_again, tile_done}
-use Rattle.verdict_drawing.proofs.tiles.table_tiles.Goals.{In-loop-k, Start}
 use Rattle.verdict_drawing.proofs.tiles.table_tiles.Goals as goal
 
--- What is known at them.
-in_grid : (c : Start) → InGrid c.args.grid c.args.rectangle
-in_grid c = record { fault = c.requires.rect.lent.ready.fault; ok = c.requires.rect.rectangle }
-
-more : (c : In-loop-k)
-    → let a = c.args in
-    c.loop-k.k < length (tiles_in (grid_in a.grid false) (rectangle_in a.rectangle))
-more c =
-    let a = c.args in
-    omega (arith, c.loop-k-test.true, tiles_length (grid_in a.grid false) (rectangle_in a.rectangle))
+-- What is required of a rectangle holds what its numbers ask.
+in_grid : {whole : List ℕ} {grid : Grid} {q : Rectangle} {table b work first second : List ℕ}
+    → ForRect whole grid q table b work first second → InGrid grid q
+in_grid p = record { fault = p.lent.ready.fault; ok = p.rectangle }
 
 pub overflow_mul-end : goal.overflow_mul-end
-overflow_mul-end c = omega (arith, few_tiles (in_grid c.before.before.before.before.before.before.before.before))
+overflow_mul-end c = omega (arith, few_tiles (in_grid c.requires.rect))
 
 pub loop-k-init : goal.loop-k-init
 loop-k-init c =
@@ -45,7 +41,7 @@ loop-k-init c =
     )
 
 pub number_in-number-requires : goal.number_in-number-requires
-number_in-number-requires c = record { rectangle = in_grid c.before.before.before.before.before.before.before.before.before.before; more = c.loop-k-test.true }
+number_in-number-requires c = record { rectangle = in_grid c.requires.rect; more = c.loop-k-test.true }
 
 pub table_tile-count-requires : goal.table_tile-count-requires
 table_tile-count-requires c =
@@ -71,7 +67,7 @@ table_tile-count-requires c =
 pub overflow_add-count : goal.overflow_add-count
 overflow_add-count c =
     let i = c.loop-k.invariant in
-    let f = few_tiles (in_grid c.before.before.before.before.before.before.before.before.before.before.before.before.before.before.before.before.before.before.before.before.before.before.before.before.before.before.before.before.before.before) in
+    let f = few_tiles (in_grid c.requires.rect) in
     let t = c.loop-k-test.true in
     let w = c.requires.rect.lent.level.kept.kept.within in
     let k : c.loop-k.k ≤ 64 = omega (arith, f, t) in
@@ -80,7 +76,7 @@ overflow_add-count c =
 pub overflow_add-k : goal.overflow_add-k
 overflow_add-k c =
     let i = c.loop-k.invariant in
-    omega (arith, few_tiles (in_grid c.before.before.before.before.before.before.before.before.before.before.before.before.before.before.before.before.before.before.before.before.before.before.before.before.before.before.before.before.before.before), c.loop-k-test.true)
+    omega (arith, few_tiles (in_grid c.requires.rect), c.loop-k-test.true)
 
 pub loop-k-smaller : goal.loop-k-smaller
 loop-k-smaller c =
