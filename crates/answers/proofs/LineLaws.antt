@@ -2,36 +2,15 @@
 use mathlib.Core.Path.{◌≡◌, refl, sym, ap, ◌∙◌}
 use mathlib.Core.Bool.{Bool, true, false, not}
 use mathlib.Core.List.{List, [], ◌∷◌, ◌++◌}
-use Prim.Native.Nat.{ℕ, zero, suc, ◌+◌, ◌*◌, ◌/◌, ◌%◌, ◌≤◌, ◌<◌}
+use Prim.Native.Nat.{ℕ, zero, suc, ◌*◌, ◌/◌, ◌%◌, ◌≤◌, ◌<◌}
 use native.Mathlib.Nat.{mul-le-mul}
 use native.Mathlib.Omega.{arith}
-use native.Mathlib.Numerals.{add-one}
 use lib.Dec.{eqb}
-use lib.ListN.{length, get_or, drop}
-use lib.Seq.{drop-cons, drop-length}
 use borrow.Author.Tests.{eqb-true, eqb-false, eq-eqb, ne_eqb, lt-ltb, le-ltb}
 use Rattle.rules.specs.Values.{first_of, first_fault, when}
 use Rattle.rules.specs.Drawings as D
 use Rattle.rules.specs.Pictures.{picture_size}
-use Rattle.rules.proofs.Lines.{first_here}
 use Rattle.answers.specs.Lines.{length_fault, slope_fault, work_fault}
-
--- The lines from the i-th on: the first of these is the first of all.
-pub record From (lines : List ℕ) (i : ℕ) : Type 0 where
-  pub rest : first_fault lines ≡ first_fault (drop i lines)
-
-module _ (lines : List ℕ) (i : ℕ) (f : From lines i) where
-  here : i < length lines → first_fault lines ≡ first_of (get_or lines i 0) (first_fault (drop (i + 1) lines))
-  here h = f.rest ∙ rw (add-one, drop-cons lines i 0)
-
-  pub found : i < length lines → (get_or lines i 0 ≡ 0 → ⊥) → get_or lines i 0 ≡ first_fault lines
-  found h k = sym (here h ∙ first_here (get_or lines i 0) _ k)
-
-  pub next : i < length lines → get_or lines i 0 ≡ 0 → From lines (i + 1)
-  next h e = record { rest = here h ∙ ap (λ n. first_of n (first_fault (drop (i + 1) lines))) e }
-
-  pub none : i ≡ length lines → 0 ≡ first_fault lines
-  none e = sym (f.rest ∙ rw (e, drop-length))
 
 -- Lines that are tested in stages: the first of a stage stands for all of it.
 first_assoc : (a b c : ℕ) → first_of (first_of a b) c ≡ first_of a (first_of b c)

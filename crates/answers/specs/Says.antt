@@ -1,5 +1,7 @@
 -- What every call promises of its answer and of what it is lent.
-use Rattle.std.specs.Prelude.{◌≡◌, List, ℕ, eqb}
+use Rattle.std.specs.Prelude.{◌≡◌, List, ℕ, eqb, Result, Ok, Err}
+use Rattle.faults.specs.declared.Refusal.{Refusal}
+use Rattle.faults.specs.Numbers.{number_of}
 use Rattle.rules.specs.Values.{pick, first_fault}
 use Rattle.rules.specs.Tapes.{place_of, read_tape}
 use Rattle.answers.specs.declared.Answer.{Answer}
@@ -19,3 +21,19 @@ written f b o = pick (eqb f 0) b o
 -- tape is accepted.
 abbrev pub checked_by : List ℕ → List ℕ → Answer
 checked_by lines s = record { number = first_fault lines; place = (read_tape s).place; count = 0 }
+
+-- The answer of a refused call, of one that ends with a count or a refusal, and of checks: they count nothing.
+abbrev pub refused : Refusal → Answer
+refused r = record { number = number_of r.fault; place = r.place; count = 0 }
+
+abbrev pub answer_of : Result ℕ Refusal → Answer
+answer_of (Ok n) = record { number = 0; place = 0; count = n }
+answer_of (Err r) = refused r
+
+abbrev pub answer_in : {A : Type 0} → Result A Refusal → Answer
+answer_in (Ok a) = record { number = 0; place = 0; count = 0 }
+answer_in (Err r) = refused r
+
+-- What checks say that these lines are about, with a tape s: which of them is the first that holds, and the tape's place.
+pub record Checked {A : Type 0} (lines s : List ℕ) (r : Result A Refusal) : Type 0 where
+  pub answer : answer_in r ≡ checked_by lines s

@@ -1,11 +1,12 @@
-// What a call answers, and its checks: a call lists them in the paper's order, each gives the number of its line in the
-// scope paper's table or 0, and the first that holds is returned.
+// What a call answers, and its checks: a call makes them in the paper's order, each refuses by its line of the scope
+// paper's table, and the first that refuses ends the call.
 #![tactic(auto)]
 
 pub mod lines;
 
 ghost use Rattle.std.specs.Prelude.{◌≡◌};
-ghost use Rattle.rules.specs.Values.{first_fault};
+
+use faults::Refusal;
 
 // The number of the paper's table, the clause at fault, and the clauses counted.
 #[repr(C)]
@@ -16,38 +17,35 @@ pub struct Answer {
     pub count: u64,
 }
 
-// The answer of a call that counts nothing: a refused one, and any that draws no picture, with number 0 if it is done.
-pub fn refused(number: u8, place: u32) -> Answer
-    ensures { result ≡ record { number = number; place = place; count = 0 } }
-{
-    Answer {
-        number: number,
-        place: place,
-        count: 0,
-    }
-}
+// A refused call counts nothing.
+impl From<Refusal> for Answer {
+    ghost use Rattle.answers.specs.Says.{refused};
 
-// The answer of a drawing that is done.
-pub fn done(count: u64) -> Answer
-    ensures { result ≡ record { number = 0; place = 0; count = count } }
-{
-    Answer {
-        number: 0,
-        place: 0,
-        count: count,
-    }
-}
+    ghost from_gives = { λ refusal answer. answer ≡ refused refusal };
 
-pub fn first_fault(lines: &[u8]) -> u8
-    ensures { result ≡ first_fault lines.now }
-{
-    let mut i = 0;
-    while i < lines.len() {
-        let line = lines[i];
-        if line != 0 {
-            return line;
+    fn from(refusal: Refusal) -> Answer {
+        Answer {
+            number: refusal.fault.number(),
+            place: refusal.place,
+            count: 0,
         }
-        i += 1;
     }
-    0
+}
+
+impl Answer {
+    ghost use Rattle.answers.specs.Says.{answer_of};
+
+    // The end of a call: the clauses counted, 0 where it draws no picture, or why it is refused.
+    pub fn of(outcome: Result<u64, Refusal>) -> Answer
+        ensures { result ≡ answer_of outcome }
+    {
+        match outcome {
+            Ok(count) => Answer {
+                number: 0,
+                place: 0,
+                count,
+            },
+            Err(refusal) => refusal.into(),
+        }
+    }
 }

@@ -5,15 +5,17 @@ ghost use Rattle.rules.specs.Pictures.{picture_size};
 ghost use Rattle.picture.specs.Shapes.{grid_in};
 ghost use Rattle.answers.specs.Lines.{length_fault, slope_fault, work_fault};
 ghost use Rattle.answers.specs.Lines.{grid_lines, draw_lines, tile_lines, slope_lines};
-ghost use Rattle.answers.specs.Says.{checked_by};
+ghost use Rattle.answers.specs.Says.{Checked};
+ghost use Rattle.faults.specs.Numbers.{fault_of};
 
-use crate::{Answer, first_fault, refused};
-use picture::grid::{Grid, grid_fault};
+use faults::{Fault, Refusal};
+use picture::grid::{Grid, check_axes};
 use tape_check::check_tape;
 
 // The least length of a work buffer.
 pub const WORK_LIMIT: usize = 32768;
 
+// `solid` is the flag of the rules: `picture_size` and the lists of lines speak of both kinds at once.
 fn picture_length(solid: bool, grid: Grid) -> usize
     ensures { result ≡ picture_size solid (grid_in grid solid) }
 {
@@ -26,75 +28,81 @@ fn picture_length(solid: bool, grid: Grid) -> usize
 }
 
 // Line 12, of a picture of some length. A refused grid has its own line before this one.
-pub fn length_fault(solid: bool, grid: Grid, length: usize) -> u8
-    ensures { result ≡ length_fault solid (grid_in grid solid) length }
+pub fn check_length(solid: bool, grid: Grid, length: usize) -> Result<(), Fault>
+    ensures { fault_of result ≡ length_fault solid (grid_in grid solid) length }
 {
     if length != picture_length(solid, grid) {
-        return 12;
+        return Err(Fault::PictureLength);
     }
-    0
+    Ok(())
 }
 
 // Line 12, of slopes of some length, three a pixel. Three times a refused grid's pixels can leave 64 bits, so the
 // length is divided.
-pub fn slope_fault(grid: Grid, length: usize) -> u8
-    ensures { result ≡ slope_fault (grid_in grid true) length }
+pub fn check_slope_length(grid: Grid, length: usize) -> Result<(), Fault>
+    ensures { fault_of result ≡ slope_fault (grid_in grid true) length }
 {
     if length % 3 == 0 {
-        return length_fault(true, grid, length / 3);
+        return check_length(true, grid, length / 3);
     }
-    12
+    Err(Fault::PictureLength)
 }
 
 // Line 13, of a work buffer of some length.
-pub fn work_fault(length: usize) -> u8
-    ensures { result ≡ work_fault length }
+pub fn check_work(length: usize) -> Result<(), Fault>
+    ensures { fault_of result ≡ work_fault length }
 {
     if length < WORK_LIMIT {
-        return 13;
+        return Err(Fault::ShortWork);
     }
-    0
+    Ok(())
 }
 
 // Lines 1 to 11. The place is the tape's own, 0 where it is accepted.
-pub fn check_grid(solid: bool, tape: &[u8], grid: Grid) -> Answer
-    ensures { result ≡ checked_by (grid_lines solid tape.now (grid_in grid solid)) tape.now }
+pub fn check_grid(solid: bool, tape: &[u8], grid: Grid) -> Result<(), Refusal>
+    ensures { Checked (grid_lines solid tape.now (grid_in grid solid)) tape.now result }
 {
-    let checked = check_tape(tape);
-    let grid_line = grid_fault(solid, grid);
-    refused(first_fault(&[checked.number, grid_line]), checked.place)
+    check_tape(tape)?;
+    check_axes(solid, grid)?;
+    Ok(())
 }
 
 // Lines 1 to 12, of a full drawing with a picture of some length.
-pub fn check_full(solid: bool, tape: &[u8], grid: Grid, length: usize) -> Answer
-    ensures { result
-        ≡ checked_by (draw_lines solid tape.now (grid_in grid solid) length) tape.now }
+pub fn check_full(solid: bool, tape: &[u8], grid: Grid, length: usize) -> Result<(), Refusal>
+    ensures { Checked (draw_lines solid tape.now (grid_in grid solid) length) tape.now result }
 {
-    let checked = check_grid(solid, tape, grid);
-    let length_line = length_fault(solid, grid, length);
-    refused(first_fault(&[checked.number, length_line]), checked.place)
+    check_grid(solid, tape, grid)?;
+    check_length(solid, grid, length)?;
+    Ok(())
 }
 
 // Lines 1 to 13, of a drawing by tiles with a work buffer of some length.
-pub fn check_tiles(solid: bool, tape: &[u8], grid: Grid, length: usize, work: usize) -> Answer
-    ensures { result
-        ≡ checked_by (tile_lines solid tape.now (grid_in grid solid) length work) tape.now }
+pub fn check_tiles(
+    solid: bool,
+    tape: &[u8],
+    grid: Grid,
+    length: usize,
+    work: usize,
+) -> Result<(), Refusal>
+    ensures { Checked (tile_lines solid tape.now (grid_in grid solid) length work) tape.now result }
 {
-    let checked = check_full(solid, tape, grid, length);
-    let work_line = work_fault(work);
-    refused(first_fault(&[checked.number, work_line]), checked.place)
+    check_full(solid, tape, grid, length)?;
+    check_work(work)?;
+    Ok(())
 }
 
 // The same with slopes of some length: their line 12 is behind the picture's.
-pub fn check_slopes(tape: &[u8], grid: Grid, length: usize, slopes: usize, work: usize) -> Answer
-    ensures { result
-        ≡ checked_by (slope_lines tape.now (grid_in grid true) length slopes work) tape.now }
+pub fn check_slopes(
+    tape: &[u8],
+    grid: Grid,
+    length: usize,
+    slopes: usize,
+    work: usize,
+) -> Result<(), Refusal>
+    ensures { Checked (slope_lines tape.now (grid_in grid true) length slopes work) tape.now result }
 {
-    let checked = check_full(true, tape, grid, length);
-    let slope_line = slope_fault(grid, slopes);
-    let work_line = work_fault(work);
-    refused(
-        first_fault(&[checked.number, slope_line, work_line]),
-        checked.place,
-    )
+    check_full(true, tape, grid, length)?;
+    check_slope_length(grid, slopes)?;
+    check_work(work)?;
+    Ok(())
 }

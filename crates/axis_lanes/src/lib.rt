@@ -22,10 +22,8 @@ pub fn lane_samples(origin: i32, step: i32, from: u32, end: u32) -> [i32; 8]
     ensures { LaneSamples origin step from end result }
 {
     let mut r = [0i32; 8];
-    let mut k = 0;
-    while k < 8 {
+    for k in 0..8 {
         r[k] = sample(origin, step, lane_index(from, end, k));
-        k += 1;
     }
     r
 }

@@ -45,8 +45,8 @@ child_boxed {t = t} {grid = grid} {parent = parent} {side = side} {m = m} e k v 
 
 cell_box : (isSolid : Bool) (grid : Grid) (c : Cell) → CellOk (layers_in isSolid grid) grid c
     → grid_fault isSolid (grid_in grid isSolid) ≡ 0 → BoxOk (box_of (grid_in grid isSolid) (region_in c))
-cell_box true grid c o e = let b = solid_box grid c refl refl o e refl in subst BoxOk b.same b.ok
-cell_box false grid c o e = let b = flat_box grid c refl refl o e refl in subst BoxOk b.same b.ok
+cell_box true grid c o e = let b = solid_box grid c o e (record { xs = refl; ys = refl; zs = refl }) refl in subst BoxOk b.same b.ok
+cell_box false grid c o e = let b = flat_box grid c o e (record { xs = refl; ys = refl; zs = refl }) refl in subst BoxOk b.same b.ok
 
 -- The box of child m is that of its cell.
 pub own_box : {isSolid : Bool} {grid : Grid} {parent c : Cell} (side m : ℕ) → ChildOf parent side m c

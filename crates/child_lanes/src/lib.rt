@@ -12,7 +12,8 @@ use range_sweep::{ENDS, run_boxes};
 use walk::cell::{Cell, flat_bounds, lesser, solid_bounds};
 use walk::children::child;
 
-// The box of child number n of a solid's region or of a flat one.
+// The box of child number n of a solid's region or of a flat one. `solid` is the flag of `ChildBox`, `ChildBoxes` and
+// `RanBy`, which speak of both kinds at once, as the rules' definitions do.
 fn child_box(solid: bool, grid: Grid, parent: Cell, side: u32, n: u32) -> Bounds
     requires { ForChildBox solid grid parent side n }
     ensures { ChildBox solid grid parent side n (box_in result) }
@@ -42,34 +43,16 @@ pub fn child_boxes(
     let mut yh = [0i32; 8];
     let mut zl = [0i32; 8];
     let mut zh = [0i32; 8];
-    let mut k = 0;
-    while k < 8 {
+    for k in 0..8 {
         let b = child_box(solid, grid, parent, side, numbers[k]);
-        let xs = b.xs;
-        let ys = b.ys;
-        let zs = b.zs;
-        let x0 = xs.low;
-        let x1 = xs.high;
-        let y0 = ys.low;
-        let y1 = ys.high;
-        let z0 = zs.low;
-        let z1 = zs.high;
-        xl[k] = x0;
-        xh[k] = x1;
-        yl[k] = y0;
-        yh[k] = y1;
-        zl[k] = z0;
-        zh[k] = z1;
-        k += 1;
+        xl[k] = b.xs.low;
+        xh[k] = b.xs.high;
+        yl[k] = b.ys.low;
+        yh[k] = b.ys.high;
+        zl[k] = b.zs.low;
+        zh[k] = b.zs.high;
     }
-    let mut r = [[0i32; 8]; 6];
-    r[0] = xl;
-    r[1] = xh;
-    r[2] = yl;
-    r[3] = yh;
-    r[4] = zl;
-    r[5] = zh;
-    r
+    [xl, xh, yl, yh, zl, zh]
 }
 
 // The children of eight numbers are run together: what is told is the slot of their result.
@@ -97,10 +80,8 @@ fn following(m: u32, end: u32) -> [u32; 8]
     ensures { Following m end result }
 {
     let mut r = [0u32; 8];
-    let mut k = 0;
-    while k < 8 {
+    for k in 0..8 {
         r[k] = lesser(m + k as u32, end - 1);
-        k += 1;
     }
     r
 }

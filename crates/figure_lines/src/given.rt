@@ -1,8 +1,9 @@
-// What the calls are lent. The contract of an array tells its length alone, so that no proof meets its elements.
-ghost use Rattle.std.specs.Prelude.{◌≡◌, length};
-ghost use Rattle.rules.specs.Drawings.{work_limit};
+// What the calls are lent.
+ghost use Rattle.std.specs.Prelude.{◌≡◌, length, replicate};
+ghost use Rattle.figure_lines.specs.Packed.{packed_onto};
 
-use layers::WORK_LIMIT;
+use crate::say;
+use layers::{WORK_LIMIT, pack_tape};
 use picture::grid::Grid;
 use rectangle::Rectangle;
 
@@ -19,9 +20,9 @@ pub fn tape(axis: u8) -> [u8; 38]
 // Origins 0 and steps of 65,536.
 pub fn grid(width: u32, height: u32, depth: u32) -> Grid {
     Grid {
-        width: width,
-        height: height,
-        depth: depth,
+        width,
+        height,
+        depth,
         xorigin: 0,
         yorigin: 0,
         zorigin: 0,
@@ -31,49 +32,49 @@ pub fn grid(width: u32, height: u32, depth: u32) -> Grid {
     }
 }
 
-// Work buffers that are not clear: of the least length, and a byte shorter.
+// A rectangle of tiles.
+pub fn rectangle(column: u32, row: u32, columns: u32, rows: u32) -> Rectangle {
+    Rectangle {
+        column,
+        row,
+        columns,
+        rows,
+    }
+}
+
+// An array of one value. Its type lets it hold nothing else, so that no wrong answer of it can be written.
+pub fn filled<T: Copy, const N: usize>(value: T) -> [T; N]
+    ensures size { N ≡ length result }
+    ensures each { result ≡ replicate N value }
+{
+    [value; N]
+}
+
+// A work buffer of the least length, which is not clear.
 pub fn work() -> [u8; WORK_LIMIT]
-    ensures { work_limit ≡ length result }
+    ensures { WORK_LIMIT ≡ length result }
 {
-    [255; WORK_LIMIT]
+    filled(255)
 }
 
-pub fn short_work() -> [u8; 32767]
-    ensures { 32767 ≡ length result }
+// The tape that a list makes, after what packing it answers.
+pub fn packed<const N: usize>(what: &[u8], slots: u32, list: &[i32]) -> [u8; N]
+    ensures size { N ≡ length result }
+    ensures bytes { result ≡ packed_onto slots list.now (replicate N 255) }
 {
-    [255; 32767]
+    let mut tape = filled(255);
+    say::answer(what, pack_tape(slots, list, &mut tape));
+    tape
 }
 
-// The memory of an empty plate.
-pub fn plate() -> [u8; 524288]
-    ensures { 524288 ≡ length result }
-{
-    [0; 524288]
-}
-
-// 1,024 clauses as a list, each of which puts the constant 0 in slot 0, and room for them as a tape.
-pub fn list() -> [i32; 5120]
-    ensures { 5120 ≡ length result }
-{
-    [0; 5120]
-}
-
-pub fn room() -> [u8; 10248]
-    ensures { 10248 ≡ length result }
-{
-    [255; 10248]
-}
-
-// 1,100 clauses, each of which puts the constant 5 in slot 100, before the paper's three; and room for them as a tape.
+// 1,100 clauses as a list, each of which puts the constant 5 in slot 100, before the paper's three.
 pub fn lettered_list() -> [i32; 5515]
     ensures { 5515 ≡ length result }
 {
     let mut list = [0i32; 5515];
-    let mut i = 0;
-    while i < 1100 {
+    for i in 0..1100 {
         list[5 * i + 1] = 100;
         list[5 * i + 4] = 5;
-        i += 1;
     }
     list[5500] = 1;
     list[5506] = 1;
@@ -81,39 +82,4 @@ pub fn lettered_list() -> [i32; 5515]
     list[5510] = 10;
     list[5513] = 1;
     list
-}
-
-pub fn lettered_room() -> [u8; 11038]
-    ensures { 11038 ≡ length result }
-{
-    [255; 11038]
-}
-
-// 1,025 clauses.
-pub fn long_list() -> [i32; 5125]
-    ensures { 5125 ≡ length result }
-{
-    [0; 5125]
-}
-
-pub fn long_room() -> [u8; 10258]
-    ensures { 10258 ≡ length result }
-{
-    [255; 10258]
-}
-
-// A rectangle of tiles, and a table of verdicts that is not clear.
-pub fn rectangle(column: u32, row: u32, columns: u32, rows: u32) -> Rectangle {
-    Rectangle {
-        column: column,
-        row: row,
-        columns: columns,
-        rows: rows,
-    }
-}
-
-pub fn table() -> [u8; 163936]
-    ensures { 163936 ≡ length result }
-{
-    [255; 163936]
 }

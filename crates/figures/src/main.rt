@@ -3,6 +3,7 @@
 // call are written.
 #![tactic(auto)]
 
+mod drawn;
 mod files;
 mod limits;
 mod orders;

@@ -1,7 +1,7 @@
 // Two 64-tiles, one above the other, in both orders: z less 100, on a grid of 1 by 1 and depth 128. And lists that are no
 // orders.
 use figure_lines::{given, say};
-use layers::{pack_tape, tile_solid_in_order};
+use layers::tile_solid_in_order;
 
 fn draw(what: &[u8], tape: &[u8], order: &[u16]) {
     let grid = given::grid(1, 1, 128);
@@ -16,8 +16,7 @@ fn draw(what: &[u8], tape: &[u8], order: &[u16]) {
 
 pub fn both_orders() {
     let list = [3i32, 0, 0, 0, 0, 0, 1, 0, 0, 6553600, 10, 0, 0, 1, 0];
-    let mut tape = [255u8; 38];
-    say::answer(b"z less 100", pack_tape(2, &list, &mut tape));
+    let tape: [u8; 38] = given::packed(b"z less 100", 2, &list);
     draw(b"tiles 0, 1", &tape, &[0, 1]);
     draw(b"tiles 1, 0", &tape, &[1, 0]);
     draw(b"tiles 0, 0", &tape, &[0, 0]);

@@ -1,17 +1,15 @@
 -- The smaller and the larger of two whole numbers, by their signs; with clamping and rounding.
 use mathlib.Core.Path.{◌≡◌, refl, sym, ap, ◌∙◌}
-use mathlib.Core.Bool.{Bool, true, false, not}
+use mathlib.Core.Bool.{Bool, true, false}
 use lib.IntN.{ℤ, pos, negsuc}
 use lib.Dec.{ltb}
-use lib.Signed.{lt_z, mag}
-use Prim.Native.Nat.{ℕ, ◌<◌, ◌≤◌, ◌^◌, min, max}
+use lib.Signed.{lt_z}
+use Prim.Native.Nat.{ℕ, min, max}
 use native.Mathlib.Omega.{arith}
 use borrow.Author.Tests.{ltb-true, ltb-false, le-ltb}
-use mir.Syntax.{w32, w64}
-use mir.Val.{SFits}
-use mir.Facts.{to_z-of_z}
-use Rattle.rules.specs.Values.{pick, smaller, larger, clamped, floored, is_neg, holds_zero, range}
-use Rattle.fixed.proofs.Words.{read, back_one}
+use Rattle.std.specs.Prelude.{cond}
+use Rattle.std.specs.Int.{int_min, int_max}
+use Rattle.rules.specs.Values.{pick, smaller, larger, clamped, floored, is_neg}
 
 -- The lesser of two naturals by a test is `min`, the greater `max`.
 lesser : (a b : ℕ) → pick (ltb b a) b a ≡ min a b
@@ -48,47 +46,25 @@ larger_neg : (a b : ℕ) → larger (negsuc a) (negsuc b) ≡ negsuc (min a b)
 unfolding larger
 larger_neg a b = pick_of negsuc (ltb b a) b a ∙ ap negsuc (lesser a b)
 
--- Clamping: to M above and −(n + 1) below. With M for n this is the whole range of the type, whose least number is then
--- raised.
-abbrev pub bounded : ℕ → ℤ → ℤ
-bounded n x = larger (smaller x (pos 2147483647)) (negsuc n)
+-- The library's smaller and larger number are those of the rules.
+chosen_same : {A : Type 0} (t : Bool) (a b : A) → cond t a b ≡ pick t a b
+chosen_same true a b = refl
+chosen_same false a b = refl
 
-bounded_pos : (n a : ℕ) → bounded n (pos a) ≡ pos (min a 2147483647)
+larger_swap : (a b : ℤ) → larger a b ≡ larger b a
 unfolding larger
-bounded_pos n a = ap (λ z. larger z (negsuc n)) (smaller_pos a 2147483647)
+larger_swap (pos a) (pos b) = larger_pos a b ∙ ap pos (omega arith) ∙ sym (larger_pos b a)
+larger_swap (pos a) (negsuc b) = refl
+larger_swap (negsuc a) (pos b) = refl
+larger_swap (negsuc a) (negsuc b) = larger_neg a b ∙ ap negsuc (omega arith) ∙ sym (larger_neg b a)
 
-bounded_neg : (n a : ℕ) → bounded n (negsuc a) ≡ negsuc (min a n)
+pub min_is : (a b : ℤ) → int_min a b ≡ smaller a b
 unfolding smaller
-bounded_neg n a = larger_neg a n
+min_is a b = chosen_same (lt_z b a) b a
 
-bounded_fits : (n : ℕ) → n ≤ 2147483647 → (x : ℤ) → SFits w32 (bounded n x)
-bounded_fits n h (pos a) = rw bounded_pos (omega arith)
-bounded_fits n h (negsuc a) = rw bounded_neg (omega arith)
-
-pub bounded_is : (x : ℤ) → bounded 2147483646 x ≡ clamped x
-bounded_is (pos a) = bounded_pos 2147483646 a
-bounded_is (negsuc a) = bounded_neg 2147483646 a
-
-pub raised_is : (x : ℤ) → larger (bounded 2147483647 x) (negsuc 2147483646) ≡ clamped x
+pub max_is : (a b : ℤ) → int_max a b ≡ larger a b
 unfolding larger
-raised_is (pos a) = ap (λ z. larger z (negsuc 2147483646)) (bounded_pos 2147483647 a)
-raised_is (negsuc a) =
-    ap (λ z. larger z (negsuc 2147483646)) (bounded_neg 2147483647 a)
-    ∙ larger_neg (min a 2147483647) 2147483646
-    ∙ ap negsuc (omega arith)
-
--- The same through words: y is the word that holds x, l what the lesser answers, g the greater.
-module _ (n : ℕ) (h : n ≤ 2147483647) (x y l g : ℤ) (ex : y ≡ x) (fl : mag l < 2 ^ 63) (fg : mag g < 2 ^ 63)
-    (el : l ≡ smaller y (pos 2147483647)) (eg : g ≡ larger (read w64 l) (negsuc n)) where
-  read_bounded : read w64 g ≡ bounded n x
-  read_bounded =
-      back_one w64 (λ z. larger z (negsuc n)) g fg eg (back_one w64 (λ z. smaller z (pos 2147483647)) l fl el ex)
-
-  pub narrow_fits : SFits w32 (read w64 g)
-  narrow_fits = rw read_bounded (bounded_fits n h x)
-
-  pub narrow : read w32 (read w64 g) ≡ bounded n x
-  narrow = to_z-of_z narrow_fits ∙ read_bounded
+max_is a b = chosen_same (lt_z b a) a b ∙ larger_swap b a
 
 -- Rounding and clamping keep the smaller and the larger.
 abbrev pub rounded : ℤ → ℤ
@@ -119,31 +95,7 @@ pub greatest_rounded : (p q s t : ℤ)
     ≡ larger (larger (rounded p) (rounded q)) (larger (rounded s) (rounded t))
 greatest_rounded p q s t = simp larger_rounded
 
--- Whether a range holds 0, by tests of its ends.
-above_zero : (low high : ℤ) → lt_z (pos 0) low ≡ true → holds_zero (range low high) ≡ false
-unfolding holds_zero
-above_zero low high e = rw e
-
+-- Whether a number is below 0, by its sign.
 pub negative : (z : ℤ) → lt_z z (pos 0) ≡ is_neg z
 negative (pos n) = le-ltb n 0 (omega arith)
 negative (negsuc n) = refl
-
-up_to_zero_lem : (low high : ℤ) (t : Bool) → lt_z (pos 0) low ≡ false → lt_z high (pos 0) ≡ t
-    → holds_zero (range low high) ≡ not t
-unfolding holds_zero
-up_to_zero_lem low high t e h = rw (e, ← negative high, h)
-
-pick_not : {A : Type 0} (t : Bool) (a b : A) → pick (not t) a b ≡ pick t b a
-pick_not true a b = refl
-pick_not false a b = refl
-
-module _ {low high least : ℤ} (fl : SFits w32 low) (fh : SFits w32 high) (fs : SFits w32 least) where
-  pub size_above : lt_z (pos 0) (read w32 low) ≡ true → read w32 least ≡ pick (holds_zero (range low high)) (pos 0) least
-  size_above e = rw (above_zero low high (rw (to_z-of_z {w = w32} {z = low} fl) at e)) (to_z-of_z fs)
-
-  pub size_up_to : (t : Bool) → lt_z (pos 0) (read w32 low) ≡ false → lt_z (read w32 high) (pos 0) ≡ t
-      → pick t (read w32 least) (pos 0) ≡ pick (holds_zero (range low high)) (pos 0) least
-  size_up_to t e h =
-      let k = up_to_zero_lem low high t (rw (to_z-of_z {w = w32} {z = low} fl) at e)
-      (rw (to_z-of_z {w = w32} {z = high} fh) at h) in
-      ap (λ z. pick t z (pos 0)) (to_z-of_z fs) ∙ sym (ap (λ u. pick u (pos 0) least) k ∙ pick_not t (pos 0) least)

@@ -13,13 +13,23 @@ pub struct Span {
     pub high: i32,
 }
 
+// One operation on the low ends and on the high ends.
+fn each_end<F: Fn(i32, i32) -> i32>(f: F, a: Span, b: Span) -> Span
+    requires of_low { F.pre f a.low b.low }
+    requires of_high { F.pre f a.high b.high }
+    ensures low { F.post f a.low b.low result.low }
+    ensures high { F.post f a.high b.high result.high }
+{
+    Span {
+        low: f(a.low, b.low),
+        high: f(a.high, b.high),
+    }
+}
+
 pub fn add_spans(a: Span, b: Span) -> Span
     ensures { range_in result ≡ sum_range (range_in a) (range_in b) }
 {
-    Span {
-        low: value::add(a.low, b.low),
-        high: value::add(a.high, b.high),
-    }
+    each_end(value::add, a, b)
 }
 
 pub fn subtract_spans(a: Span, b: Span) -> Span
@@ -35,13 +45,13 @@ pub fn subtract_spans(a: Span, b: Span) -> Span
 fn least(a: i64, b: i64, c: i64, d: i64) -> i64
     ensures { result ≡ smaller (smaller a b) (smaller c d) }
 {
-    value::lesser(value::lesser(a, b), value::lesser(c, d))
+    a.min(b).min(c.min(d))
 }
 
 fn greatest(a: i64, b: i64, c: i64, d: i64) -> i64
     ensures { result ≡ larger (larger a b) (larger c d) }
 {
-    value::greater(value::greater(a, b), value::greater(c, d))
+    a.max(b).max(c.max(d))
 }
 
 // The least and the greatest are taken before rounding, which keeps them, so that each end is rounded and clamped once.
@@ -111,12 +121,8 @@ pub fn divide_spans(a: Span, b: Span) -> Span
             high: 2147483647,
         };
     }
-    if 0 < b.low {
-        if a.low <= a.high {
-            if b.low <= b.high {
-                return two_of_four(a, b);
-            }
-        }
+    if 0 < b.low && a.low <= a.high && b.low <= b.high {
+        return two_of_four(a, b);
     }
     all_four(a, b)
 }
@@ -137,8 +143,10 @@ fn low_size(low: i32, high: i32, least: i32) -> i32
 {
     if 0 < low {
         least
+    } else if high < 0 {
+        least
     } else {
-        if high < 0 { least } else { 0 }
+        0
     }
 }
 
@@ -169,27 +177,18 @@ pub fn square_span(a: Span) -> Span
 pub fn root_span(a: Span) -> Span
     ensures { range_in result ≡ root_range (range_in a) }
 {
-    let s = isqrt::roots(a.low, a.high);
-    Span {
-        low: s.low,
-        high: s.high,
-    }
+    let (low, high) = isqrt::roots(a.low, a.high);
+    Span { low, high }
 }
 
 pub fn minimum_spans(a: Span, b: Span) -> Span
     ensures { range_in result ≡ smaller_range (range_in a) (range_in b) }
 {
-    Span {
-        low: value::minimum(a.low, b.low),
-        high: value::minimum(a.high, b.high),
-    }
+    each_end(value::minimum, a, b)
 }
 
 pub fn maximum_spans(a: Span, b: Span) -> Span
     ensures { range_in result ≡ larger_range (range_in a) (range_in b) }
 {
-    Span {
-        low: value::maximum(a.low, b.low),
-        high: value::maximum(a.high, b.high),
-    }
+    each_end(value::maximum, a, b)
 }

@@ -8,33 +8,33 @@ ghost use Rattle.rules.specs.Values.{absolute, square, end_of, quotient};
 pub fn lesser(a: i64, b: i64) -> i64
     ensures { result ≡ smaller a b }
 {
-    if b < a { b } else { a }
+    a.min(b)
 }
 
 pub fn greater(a: i64, b: i64) -> i64
     ensures { result ≡ larger a b }
 {
-    if a < b { b } else { a }
+    a.max(b)
 }
 
 pub fn minimum(a: i32, b: i32) -> i32
     ensures { result ≡ smaller a b }
 {
-    if b < a { b } else { a }
+    a.min(b)
 }
 
 pub fn maximum(a: i32, b: i32) -> i32
     ensures { result ≡ larger a b }
 {
-    if a < b { b } else { a }
+    a.max(b)
 }
 
 // Saturated to the whole range of the type first: sums and differences the machine saturates several at once.
 pub fn clamp(x: i64) -> i32
     ensures { result ≡ clamped x }
 {
-    let narrow = greater(lesser(x, 2147483647), -2147483648) as i32;
-    maximum(narrow, -2147483647)
+    let narrow = x.clamp(-2147483648, 2147483647) as i32;
+    narrow.max(-2147483647)
 }
 
 pub fn add(a: i32, b: i32) -> i32
@@ -61,7 +61,7 @@ pub fn exact_product(a: i32, b: i32) -> i64
 pub fn round(x: i64) -> i32
     ensures { result ≡ clamped (floored x) }
 {
-    greater(lesser(x >> 16, 2147483647), -2147483647) as i32
+    (x >> 16).clamp(-2147483647, 2147483647) as i32
 }
 
 pub fn multiply(a: i32, b: i32) -> i32
@@ -77,11 +77,18 @@ pub fn negate(a: i32) -> i32
     -a
 }
 
+// The same for a number that may be no value, the least of 32 bits: a difference, which is clamped.
+pub fn opposite(a: i32) -> i32
+    ensures { IsValue a → result ≡ neg_ℤ a }
+{
+    subtract(0, a)
+}
+
 pub fn absolute(a: i32) -> i32
     requires { IsValue a }
     ensures { result ≡ absolute a }
 {
-    if a < 0 { negate(a) } else { a }
+    a.abs()
 }
 
 pub fn square(a: i32) -> i32
@@ -120,8 +127,10 @@ fn end_of(a: i32) -> i32
 {
     if a < 0 {
         -2147483647
+    } else if 0 < a {
+        2147483647
     } else {
-        if 0 < a { 2147483647 } else { 0 }
+        0
     }
 }
 

@@ -80,16 +80,14 @@ fn eights_by(
 {
     let mut count: u64 = 0;
     let end = child_count(parent, 8);
-    let mut m = 0;
     let mut result = 0;
-    while m < end {
+    for m in 0..end {
         result = run_children(code, grid, parent, 8, m, end, result, ends, choices);
         let cell = child(parent, 8, m);
         let lane = lane_at(ends, result, (m % 8) as usize);
         count += visit_eight(
             whole, code, grid, cell, lane, choices, picture, work, second, slots,
         );
-        m += 1;
     }
     count
 }

@@ -21,19 +21,18 @@ pub fn fill(grid: Grid, c: Cell, picture: &mut [u8])
     ensures apart { Apart grid.width c.x c.xend c.y c.yend picture.old
         picture.new }
 {
-    let xend = c.xend as usize;
-    let yend = c.yend as usize;
     fill_rect(
         picture,
         grid.width as usize,
         c.x as usize,
         c.y as usize,
-        xend,
-        yend,
+        c.xend as usize,
+        c.yend as usize,
     );
 }
 
 // What the judge says is done: a full region is filled.
+// Flat and solid settle alike but for the picture and how a full region is filled: a function for both would take these.
 fn settle(code: &[u64], grid: Grid, c: Cell, outcome: Outcome, picture: &mut [u8]) -> Seen
     requires { ForFill grid c picture.old }
     ensures settled { Settled code.now grid c outcome picture.old picture.new result }
@@ -67,11 +66,12 @@ pub fn look(
         picture.new }
 {
     let judged = judge(whole, code, flat_bounds(grid, c), work, base, next);
-    let outcome = judged.outcome;
-    settle(code, grid, c, outcome, picture)
+    settle(code, grid, c, judged.outcome, picture)
 }
 
 // The same look by a lane of a sweep that ran the region with others.
+// It differs from `look` in who judges: to take the judge as a closure would cost the lines that it saves.
+#[inline(always)]
 pub fn look_lane(
     whole: &[u64],
     code: &[u64],
@@ -91,6 +91,5 @@ pub fn look_lane(
         picture.new }
 {
     let judged = judge_lane(whole, code, lane, choices, work, base, next);
-    let outcome = judged.outcome;
-    settle(code, grid, c, outcome, picture)
+    settle(code, grid, c, judged.outcome, picture)
 }

@@ -23,11 +23,8 @@ fn splats(vs: [i32; 8]) -> [[i32; 8]; 8]
     ensures { Splats vs result }
 {
     let mut r = [[0i32; 8]; 8];
-    let mut c = 0;
-    while c < 8 {
-        let row = lanes::splat(vs[c]);
-        r[c] = row;
-        c += 1;
+    for c in 0..8 {
+        r[c] = lanes::splat(vs[c]);
     }
     r
 }
@@ -56,6 +53,7 @@ fn sign_byte(row: [i32; 8], count: u32) -> u8
     requires { count ≤ 8 }
     ensures { SignByte count row result }
 {
+    // With a `for` and `&&` for the test of a lane a flat drawing took 1.04 times as long, a bracket 1.07 times.
     let mut byte = 0u8;
     let mut k = 0u32;
     while k < 8 {
@@ -115,11 +113,9 @@ pub fn sample_rows(
 {
     let at = run_rows(code, grid, parent, slots);
     let mut count: u64 = 0;
-    let mut y = parent.y;
-    while y < parent.yend {
+    for y in parent.y..parent.yend {
         let row = slots[8 * at + (y - parent.y) as usize];
         count += store_signs(code, grid, parent, row, y, picture);
-        y += 1;
     }
     count
 }

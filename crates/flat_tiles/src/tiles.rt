@@ -104,9 +104,8 @@ fn tiles(
     let mut ends = [[0i32; 8]; ENDS];
     let mut count: u64 = 0;
     let end = child_count(parent, 64);
-    let mut m = 0;
     let mut result = 0;
-    while m < end {
+    for m in 0..end {
         result = run_children(whole, grid, parent, 64, m, end, result, &mut ends, own);
         let cell = child(parent, 64, m);
         let lane = lane_at(&ends, result, (m % 8) as usize);
@@ -125,7 +124,6 @@ fn tiles(
         count += settle_tile(
             whole, grid, cell, seen, picture, work, first, second, slots, choices,
         );
-        m += 1;
     }
     count
 }

@@ -1,71 +1,57 @@
--- What a byte of the text, or the number after the last one, tells of the place where it was read.
-use mathlib.Core.Path.{◌≡◌, refl, sym, ◌∙◌, ap}
-use mathlib.Core.Bool.{Bool, true, false}
-use mathlib.Core.List.{List}
-use mathlib.Core.Logic.{◌≢◌}
-use Prim.Native.Nat.{ℕ, ◌+◌, ◌≤◌, ◌<◌}
-use native.Mathlib.Omega.{arith}
-use lib.Dec.{ltb}
-use lib.ListN.{length, get_or}
-use borrow.Author.Tests.{lt-ltb, le-ltb, ltb-true, ltb-false}
+-- What a byte of the text, or its end, tells of the place where it was read.
+use Rattle.std.proofs.Common.{◌≡◌, sym, ◌∙◌, ap, List, ℕ, ◌≤◌, ◌<◌, length, get_or, arith, Option, None, Some}
+use Rattle.std.proofs.Common.{not, Bool, true, false, ◌+◌, ◌-◌, drop, length-drop, get_or-drop}
+use Rattle.std.specs.List.{prefix_len}
+use Rattle.std.proofs.lemmas.List.Sums.{prefix_len-le-length, prefix_len_passes, prefix_len_stops}
 use Rattle.formula_rules.specs.FormulaCalls.{Blank}
-use Rattle.formula.specs.Bytes.{byte_at}
+use mathlib.Core.Bool.{true≢false}
+use lib.Dec.{eqb}
+use borrow.Author.Tests.{eqb-true, eqb-false, not-true, not-false}
+use Rattle.std.specs.Option.{option_eq}
+use Rattle.formula.specs.Bytes.{Here, NotHere, IsByteAt}
 
-pub byte_in_lem : (text : List ℕ) (n : ℕ) → n < length text → byte_at text n ≡ get_or text n 0
-unfolding byte_at
-byte_in_lem text n h = rw (lt-ltb n (length text) h)
+pub other : (text : List ℕ) (n b : ℕ) (o : Option ℕ) → IsByteAt text n o → (o ≡ Some b → ⊥) → NotHere text n b
+other text n b None h f = record { other = λ w. absurd (omega arith) }
+other text n b (Some a) h f = record { other = λ w q. f (ap Some (sym h.byte ∙ q)) }
 
-pub byte_end : (text : List ℕ) (n : ℕ) → length text ≤ n → byte_at text n ≡ 256
-unfolding byte_at
-byte_end text n h = rw (le-ltb n (length text) h)
+pub here : (text : List ℕ) (n b : ℕ) (o : Option ℕ) → IsByteAt text n o → o ≡ Some b → Here text n b
+here text n b o h e = rw e at h
 
--- The byte b stands there; it doesn't.
-pub record Here (text : List ℕ) (n b : ℕ) : Type 0 where
-  pub within : n < length text
-  pub byte : get_or text n 0 ≡ b
+-- The byte that was read, and another; the end.
+pub here_is : {text : List ℕ} {n a b : ℕ} → Here text n a → a ≡ b → Here text n b
+here_is h e = record { within = h.within; byte = h.byte ∙ e }
 
-pub here : (text : List ℕ) (n r b : ℕ) → r ≡ byte_at text n → r ≡ b → b < 256 → Here text n b
-here text n r b e q h = by (ltb n (length text)) refl
-  where
-    by : (t : Bool) → ltb n (length text) ≡ t → Here text n b
-    by true f =
-        let w = ltb-true n (length text) f in
-        record { within = w; byte = sym (byte_in_lem text n w) ∙ sym e ∙ q }
-    by false f =
-        let z : 256 ≡ r = sym (byte_end text n (ltb-false n (length text) f)) ∙ sym e in
-        absurd (omega arith)
+pub not_here : {text : List ℕ} {n a b : ℕ} → Here text n a → (a ≡ b → ⊥) → NotHere text n b
+not_here h f = record { other = λ w q. f (sym h.byte ∙ q) }
 
-pub other : (text : List ℕ) (n r b : ℕ) → r ≡ byte_at text n → r ≢ b → n < length text → get_or text n 0 ≢ b
-other text n r b e f h q = f (e ∙ byte_in_lem text n h ∙ q)
+pub past_end : {text : List ℕ} {n b : ℕ} → length text ≤ n → NotHere text n b
+past_end h = record { other = λ w. absurd (omega arith) }
 
-pub byte_of_lem : (text : List ℕ) (n r : ℕ) → r ≡ byte_at text n → n < length text → get_or text n 0 ≡ r
-byte_of_lem text n r e h = sym (byte_in_lem text n h) ∙ sym e
+-- What the test for a byte told.
+pub is_other : (text : List ℕ) (n b : ℕ) (o : Option ℕ) → IsByteAt text n o → not (option_eq eqb o (Some b)) ≡ true
+    → NotHere text n b
+is_other text n b None h e = past_end h
+is_other text n b (Some a) h e = not_here h (eqb-false a b (not-true (eqb a b) e))
 
--- Spaces one after the other, up to the first place where none stands.
-pub record Spaces (text : List ℕ) (n j : ℕ) : Type 0 where
-  pub from : n ≤ j
-  pub within : j ≤ length text
-  pub each : (i : ℕ) → n ≤ i → i < j → get_or text i 0 ≡ 32
+pub is_here : (text : List ℕ) (n b : ℕ) (o : Option ℕ) → IsByteAt text n o → not (option_eq eqb o (Some b)) ≡ false
+    → Here text n b
+is_here text n b None h e = absurd (true≢false e)
+is_here text n b (Some a) h e = here_is h (eqb-true a b (not-false (eqb a b) e))
 
-pub spaces_start : (text : List ℕ) (n : ℕ) → n ≤ length text → Spaces text n n
-spaces_start text n h = record { from = omega arith; within = h; each = λ i p q. absurd (omega arith) }
-
-pub spaces_next : (text : List ℕ) (n j r : ℕ) → Spaces text n j → r ≡ byte_at text j → r ≡ 32 → Spaces text n (j + 1)
-spaces_next text n j r s e q =
-    let h = here text j r 32 e q (omega arith) in
-    record {
-      from = omega arith;
-      within = omega arith;
-      each = λ i p l. by i p l (ltb i j) refl;
-    }
-  where
-    by : (i : ℕ) → n ≤ i → i < j + 1 → (t : Bool) → ltb i j ≡ t → get_or text i 0 ≡ 32
-    by i p l true f = s.each i p (ltb-true i j f)
-    by i p l false f =
-        let g = ltb-false i j f in
-        let z : i ≡ j = omega arith in
-        ap (λ k. get_or text k 0) z ∙ (here text j r 32 e q (omega arith)).byte
-
-pub spaces_end : (text : List ℕ) (n j r : ℕ) → Spaces text n j → r ≡ byte_at text j → r ≢ 32 → Blank text n j
-spaces_end text n j r s e q =
-    record { from = s.from; within = s.within; each = s.each; ends = other text j r 32 e q }
+-- The spaces that what is left of the text begins with.
+module _ (text : List ℕ) (n : ℕ) (h : n ≤ length text) where
+  pub blank_at : Blank text n (n + prefix_len (λ b. eqb b 32) (drop n text))
+  blank_at =
+      let p : ℕ → Bool = λ b. eqb b 32 in
+      let s = drop n text in
+      record {
+        from = omega arith;
+        within = omega (arith, prefix_len-le-length p s, length-drop n text);
+        each = λ i f l. let k : i - n < prefix_len p s = omega arith in
+            let e : n + (i - n) ≡ i = omega arith in
+            let w = prefix_len_passes p s (i - n) 0 k in
+            eqb-true (get_or text i 0) 32 (rw (get_or-drop n text (i - n) 0, e) at w);
+        ends = λ l. let k : prefix_len p s < length s = omega (arith, length-drop n text) in
+            let w = prefix_len_stops p s 0 k in
+            eqb-false (get_or text (n + prefix_len p s) 0) 32 (rw (get_or-drop n text (prefix_len p s) 0) at w);
+      }

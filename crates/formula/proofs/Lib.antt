@@ -1,6 +1,5 @@
 -- Laws that the proofs of this crate cite.
 pub mod Bytes
-pub mod JoinLaws
 pub mod Numbers
 pub mod Names
 pub mod Sheets

@@ -1,30 +1,39 @@
 -- Names, letter by letter, and the bracket after one.
 use mathlib.Core.Path.{◌≡◌, refl, subst, ap, ◌∙◌}
 use mathlib.Core.Bool.{Bool, true, false}
-use mathlib.Core.List.{List}
-use mathlib.Core.Logic.{◌≢◌}
-use Prim.Native.Nat.{ℕ, zero, suc, ◌+◌, ◌-◌, ◌≤◌, ◌<◌}
+use mathlib.Core.List.{List, [], ◌∷◌}
+use Prim.Native.Nat.{ℕ, ◌+◌, ◌≤◌, ◌<◌}
 use native.Mathlib.Numerals.{add-one}
 use native.Mathlib.Omega.{arith}
 use lib.Dec.{eqb, ltb}
-use lib.ListN.{length, get_or}
+use lib.ListN.{length, get_or, drop}
 use borrow.Author.Tests.{ltb-true, ltb-false, ne_eqb}
-use Rattle.formula_rules.specs.Trees.{Axis, axisX, axisY, axisZ, axis}
+use Rattle.std.proofs.Common.{None, Some, Result, Ok, Err, inl, inr, drop-cons}
+use Rattle.std.proofs.lemmas.List.{drop_all}
+use Rattle.formula_rules.specs.Trees.{axis}
 use Rattle.formula_rules.specs.Formulas.{axis_byte}
 use Rattle.formula_rules.specs.Formulas.{absName, sqrName, rootName, minName, maxName}
 use Rattle.formula_rules.specs.FormulaReader.{Level, Frame, called, opened, Spelling, a-, ab-, s-, sq-, r-, ro-, roo-}
-use Rattle.formula_rules.specs.FormulaReader.{m-, mi-, ma-, Function, of_one, of_two, Mode, want, spelling, named, no}
+use Rattle.formula_rules.specs.FormulaReader.{m-, mi-, ma-, of_one, of_two, Mode, want, spelling, named, no}
 use Rattle.formula_rules.specs.FormulaReader.{choose, move_in, end_in, breaks, opener_of}
+use Rattle.formula_rules.specs.FormulaReader as reader
 use Rattle.formula_rules.specs.FormulaCalls.{Blank, ItemStops, ModeRead}
-use Rattle.formula_rules.specs.FormulaTapes.{axis_opcode}
 use Rattle.formula_rules.specs.FormulaDepths.{clauses_at}
 use Rattle.formula_rules.proofs.FormulaSteps.{NoItem, no_item, no_bracket}
 use Rattle.formula_rules.proofs.FormulaItems.{mode_start, mode_step, mode_stops, mode_ends, mode_blank, item_stops, item_ends}
 use Rattle.formula_rules.proofs.FormulaItems.{axis_read, bracket_opens, bracket_deep, name_opens, name_deep}
-use Rattle.formula.specs.Bytes.{byte_at}
-use Rattle.formula.specs.Heads.{Spells, BreaksIn, NoLeaf, NameAt, OpensAt, OneAt, TwoAt, Follows, nothing, one}
-use Rattle.formula.specs.Heads.{function_opcode, LeafAt, NoDigit, NoSpace}
-use Rattle.formula.proofs.Bytes.{Here, here, other, byte_of_lem}
+use Rattle.formula.specs.declared.text.Stop.{Stop}
+use Rattle.formula.specs.declared.head.Name.{Name}
+use Rattle.formula.specs.declared.steps.Axis as declared
+use Rattle.formula.specs.declared.steps.Unary.{Unary}
+use Rattle.formula.specs.declared.steps.Binary.{Binary}
+use Rattle.formula.specs.declared.steps.Function.{Function}
+use Rattle.formula.specs.declared.steps.Function.TheVariants as function
+use Rattle.formula.specs.declared.steps.Step.TheVariants as kind
+use Rattle.formula.specs.Bytes.{Here, NotHere, Missed, Passed}
+use Rattle.formula.specs.Steps.{axis_of, Means}
+use Rattle.formula.specs.Heads.{Spells, BreaksIn, StopsIn, NoLeaf, NameAt, OpensAt, OneAt, TwoAt, nothing, one}
+use Rattle.formula.specs.Heads.{LeafAt, Spelt, WordAt}
 
 -- Where no byte, or a byte that leads nowhere, stands.
 mode_no : (text : List ℕ) (n j : ℕ) (w : Mode) → ModeRead text n j w
@@ -38,15 +47,15 @@ mode_no text n j w r f g = record { stops = λ d. by d (ltb j (length text)) ref
         let h = ltb-false j (length text) e in
         mode_ends text n j d w r (omega (arith, r.within)) g
 
-pub no_letter : (text : List ℕ) (n m b r : ℕ) (p : Spelling) (w : Mode) → ModeRead text n m (spelling p)
-    → Spells p b w → r ≡ byte_at text m → r ≢ b → BreaksIn text n m
-no_letter text n m b r p w h s e f =
-    mode_no text n m (spelling p) h (λ l. s.stops (get_or text m 0) (other text m r b e f l)) (λ l k. refl)
+no_letter : (text : List ℕ) (n m b : ℕ) (p : Spelling) (w : Mode) → ModeRead text n m (spelling p) → Spells p b w
+    → NotHere text m b → BreaksIn text n m
+no_letter text n m b p w h s f =
+    mode_no text n m (spelling p) h (λ l. s.stops (get_or text m 0) (f.other l)) (λ l k. refl)
 
 closed_at : (text : List ℕ) (n b : ℕ) → Here text n b → eqb b 40 ≡ false → eqb (get_or text n 0) 40 ≡ false
 closed_at text n b h e = ap (λ c. eqb c 40) h.byte ∙ e
 
-pub next_letter : (text : List ℕ) (n m b : ℕ) (p : Spelling) (w : Mode) → ModeRead text n m (spelling p)
+next_letter : (text : List ℕ) (n m b : ℕ) (p : Spelling) (w : Mode) → ModeRead text n m (spelling p)
     → Spells p b w → Here text m b → ModeRead text n (m + 1) w
 next_letter text n m b p w r s h =
     rw (add-one m)
@@ -106,14 +115,11 @@ module _ (text : List ℕ) (n m : ℕ) (r : ModeRead text n m (spelling m-)) whe
       (mode_step text n m (spelling m-) (spelling ma-) r h.within (closed_at text m 97 h refl)
       (λ l k. ap (move_in (spelling m-) l k) h.byte))
 
-  pub then_none : (b : ℕ) → b ≡ byte_at text m → b ≢ 105 → b ≢ 97 → BreaksIn text n m
+  pub then_none : NotHere text m 105 → NotHere text m 97 → BreaksIn text n m
   unfolding move_in choose
-  then_none b e p q =
+  then_none p q =
       mode_no text n m (spelling m-) r
-      (λ h l k. rw (
-        ne_eqb (get_or text m 0) 105 (other text m b 105 e p h),
-        ne_eqb (get_or text m 0) 97 (other text m b 97 e q h),
-      ))
+      (λ h l k. rw (ne_eqb (get_or text m 0) 105 (p.other h), ne_eqb (get_or text m 0) 97 (q.other h)))
       (λ l k. refl)
 
 -- The first letter.
@@ -158,68 +164,104 @@ module _ (text : List ℕ) (n : ℕ) where
           let w = ltb-false n (length text) e in
           item_ends text n d (omega arith)
 
-  pub no_word : (b : ℕ) → n ≤ length text → NoLeaf text n → b ≡ byte_at text n → b ≢ 97 → b ≢ 115 → b ≢ 109 → b ≢ 114
-      → BreaksIn text n n
-  no_word b h g e pa ps pm pr =
+  pub no_word : n ≤ length text → NoLeaf text n → NotHere text n 97 → NotHere text n 115 → NotHere text n 114
+      → NotHere text n 109 → BreaksIn text n n
+  no_word h g a s r m =
       no_front h
       (λ w. record {
         digit = g.digit.none w;
-        space = g.space.none w;
-        bracket = g.bracket w;
-        x = λ q. omega (arith, g.below w);
-        y = λ q. omega (arith, g.below w);
-        z = λ q. omega (arith, g.below w);
-        a = other text n b 97 e pa w;
-        s = other text n b 115 e ps w;
-        r = other text n b 114 e pr w;
-        m = other text n b 109 e pm w;
+        space = g.space.other w;
+        bracket = g.bracket.other w;
+        x = g.x.other w;
+        y = g.y.other w;
+        z = g.z.other w;
+        a = a.other w;
+        s = s.other w;
+        r = r.other w;
+        m = m.other w;
       })
 
+-- The last letters of a name, as the loop over them has it.
+module _ (text : List ℕ) (n : ℕ) (bs : List ℕ) (i : ℕ) (f : Function) where
+  pub spelt_broken : (s : Stop) → i < length bs → Missed text n (get_or bs i 0) s → Spelt text n (drop i bs) f (Err s)
+  unfolding Spelt
+  spelt_broken s h m = rw (drop-cons bs i 0) (inr (m.other, ap Err m.stop))
+
+  pub spelt_on : (m : ℕ) (r : Result Name Stop) → i < length bs → Passed text n (get_or bs i 0) m
+      → Spelt text m (drop (i + 1) bs) f r → Spelt text n (drop i bs) f r
+  unfolding Spelt
+  spelt_on m r h p q =
+      rw (drop-cons bs i 0)
+      (inl (p.here, rw (← p.next) (rw (add-one i) at q)))
+
+  pub spelt_all : length bs ≤ i → Spelt text n (drop i bs) f (Ok (record { end = n; function = f }))
+  unfolding Spelt
+  spelt_all h = rw (drop_all i bs h) refl
+
+-- What the last letters say where the reader has read those before them: one, two or three.
+module _ (text : List ℕ) (n : ℕ) (g : reader.Function) (f : Function) (same : Means f g) where
+  pub word_1 : (m a : ℕ) (p : Spelling) (r : Result Name Stop) → n < m → Spells p a (named g)
+      → ModeRead text n m (spelling p) → Spelt text m (a ∷ []) f r → WordAt text n r
+  unfolding Spelt
+  word_1 m a p r l s h (inl (i, e)) =
+      rw e
+      (record { function = g; read = next_letter text n m a p (named g) h s i; means = same; on = omega arith })
+  word_1 m a p r l s h (inr (i, e)) = rw e (no_letter text n m a p (named g) h s i)
+
+  pub word_2 : (m a b : ℕ) (p q : Spelling) (r : Result Name Stop) → n < m → Spells p a (spelling q)
+      → Spells q b (named g) → ModeRead text n m (spelling p) → Spelt text m (a ∷ (b ∷ [])) f r → WordAt text n r
+  unfolding Spelt
+  word_2 m a b p q r l s t h (inl (i, e)) =
+      word_1 (m + 1) b q r (omega arith) t (next_letter text n m a p (spelling q) h s i) e
+  word_2 m a b p q r l s t h (inr (i, e)) = rw e (no_letter text n m a p (spelling q) h s i)
+
+  pub word_3 : (m a b c : ℕ) (p q o : Spelling) (r : Result Name Stop) → n < m → Spells p a (spelling q)
+      → Spells q b (spelling o) → Spells o c (named g) → ModeRead text n m (spelling p)
+      → Spelt text m (a ∷ (b ∷ (c ∷ []))) f r → WordAt text n r
+  unfolding Spelt
+  word_3 m a b c p q o r l s t u h (inl (i, e)) =
+      word_2 (m + 1) b c q o r (omega arith) t u (next_letter text n m a p (spelling q) h s i) e
+  word_3 m a b c p q o r l s t u h (inr (i, e)) = rw e (no_letter text n m a p (spelling q) h s i)
+
 -- A name's bracket.
-pub no_open : (text : List ℕ) (n m j code r : ℕ) → NameAt text n m code → Blank text m j → r ≡ byte_at text j → r ≢ 40
-    → BreaksIn text n j
-no_open text n m j code r a b e q =
-    let f = a.function in
-    mode_no text n j (named f) (mode_blank text n m j f a.read b)
-    (λ h l k. no_bracket (get_or text j 0) f l k (b.ends h) (other text j r 40 e q h)) (λ l k. refl)
+module _ (text : List ℕ) (n j : ℕ) (x : Name) (a : NameAt text n x) (b : Blank text x.end j) where
+  read : ModeRead text n j (named a.function)
+  read = mode_blank text n x.end j a.function a.read b
 
-opens_named : (text : List ℕ) (n m j code : ℕ) (a : NameAt text n m code) → Blank text m j → Here text j 40
-    → OpensAt text n j (opener_of a.function)
-opens_named text n m j code a b h =
-    let f = a.function in
-    let r = mode_blank text n m j f a.read b in
-    record {
-      on = omega (arith, a.on, b.from);
-      within = h.within;
-      opens = λ d g. name_opens text n j d f r h.within h.byte g;
-      stops = λ d g. name_deep text n j d f r h.within h.byte g;
-    }
+  pub no_open : (s : Stop) → Missed text j 40 s → StopsIn text n s
+  no_open s m =
+      rw m.stop
+      (mode_no text n j (named a.function) read
+      (λ h l k. no_bracket (get_or text j 0) a.function l k (b.ends h) (m.other.other h)) (λ l k. refl))
 
-pub one_named : (text : List ℕ) (n m j code : ℕ) → NameAt text n m code → Blank text m j → Here text j 40 → code ≤ 8
-    → OneAt text n j code
-one_named text n m j code a b h g = by a.function a.opcode (opens_named text n m j code a b h)
-  where
-    by : (f : Function) → function_opcode f ≡ code → OpensAt text n j (opener_of f) → OneAt text n j code
-    by (of_one f) e o =
-        record { opener = called f; opcode = subst (λ k. Follows (called f) k) e (one f); opens = o }
-    by (of_two minName) e o = absurd (omega arith)
-    by (of_two maxName) e o = absurd (omega arith)
+  opens_named : Here text j 40 → OpensAt text n j (opener_of a.function)
+  opens_named h =
+      record {
+        on = omega (arith, a.on, b.from);
+        within = h.within;
+        opens = λ d g. name_opens text n j d a.function read h.within h.byte g;
+        stops = λ d g. name_deep text n j d a.function read h.within h.byte g;
+      }
 
-pub two_named : (text : List ℕ) (n m j code : ℕ) → NameAt text n m code → Blank text m j → Here text j 40 → 8 < code
-    → TwoAt text n j code
-two_named text n m j code a b h g = by a.function a.opcode (opens_named text n m j code a b h)
-  where
-    by : (f : Function) → function_opcode f ≡ code → OpensAt text n j (opener_of f) → TwoAt text n j code
-    by (of_one absName) e o = absurd (omega arith)
-    by (of_one sqrName) e o = absurd (omega arith)
-    by (of_one rootName) e o = absurd (omega arith)
-    by (of_two f) e o = record { name = f; opcode = e; opens = o }
+  pub one_named : (u : Unary) → x.function ≡ function.One u → Here text j 40 → OneAt text n j (Some u)
+  one_named u e h = by a.function (subst (λ f. Means f a.function) e a.means) (opens_named h)
+    where
+      by : (f : reader.Function) → Means (function.One u) f → OpensAt text n j (opener_of f) → OneAt text n j (Some u)
+      by (of_one f) q o = record { opener = called f; follows = one f u q; opens = o }
+      by (of_two f) q o = absurd q
 
-pub own_bracket : (text : List ℕ) (n : ℕ) → Here text n 40 → OneAt text n n 0
+  pub two_named : (u : Binary) → x.function ≡ function.Two u → Here text j 40 → TwoAt text n j u
+  two_named u e h = by a.function (subst (λ f. Means f a.function) e a.means) (opens_named h)
+    where
+      by : (f : reader.Function) → Means (function.Two u) f → OpensAt text n j (opener_of f) → TwoAt text n j u
+      by (of_one f) q o = absurd q
+      by (of_two f) q o = record { name = f; same = q; opens = o }
+
+pub own_bracket : (text : List ℕ) (n : ℕ) → Here text n 40 → OneAt text n n None
 own_bracket text n h =
     record {
       opener = opened;
-      opcode = nothing;
+      follows = nothing;
       opens = record {
         on = omega arith;
         within = h.within;
@@ -228,64 +270,16 @@ own_bracket text n h =
       };
     }
 
--- An axis; a byte past the axes; one before them.
-pub axis_at : (text : List ℕ) (n b : ℕ) → b ≡ byte_at text n → 120 ≤ b → b ≤ 122 → LeafAt text n (n + 1) (b - 119) 0
+-- An axis.
+pub axis_at : (text : List ℕ) (n : ℕ) (a : declared.Axis) → Here text n (axis_byte (axis_of a))
+    → LeafAt text n (n + 1) (kind.Axis a)
 unfolding clauses_at
-axis_at text n b e h g = by (b - 120) (omega arith)
-  where
-    leaf : (a : Axis) → Here text n (axis_byte a) → LeafAt text n (n + 1) (axis_opcode a) 0
-    leaf a i =
-        record {
-          tree = axis a;
-          read = λ d. rw (add-one n) (axis_read text n d a i.within i.byte);
-          clause = λ s. refl;
-          low = few a;
-          small = omega arith;
-          on = omega arith;
-          within = omega (arith, i.within);
-        }
-      where
-        few : (x : Axis) → axis_opcode x ≤ 3
-        few axisX = omega arith
-        few axisY = omega arith
-        few axisZ = omega arith
-
-    by : (k : ℕ) → b ≡ k + 120 → LeafAt text n (n + 1) (b - 119) 0
-    by zero q =
-        let z : b - 119 ≡ 1 = omega arith in
-        rw z (leaf axisX (here text n b 120 e (omega arith) (omega arith)))
-    by (suc zero) q =
-        let z : b - 119 ≡ 2 = omega arith in
-        rw z (leaf axisY (here text n b 121 e (omega arith) (omega arith)))
-    by (suc (suc zero)) q =
-        let z : b - 119 ≡ 3 = omega arith in
-        rw z (leaf axisZ (here text n b 122 e (omega arith) (omega arith)))
-    by (suc (suc (suc k))) q = absurd (omega arith)
-
-pub past_axes : (text : List ℕ) (n b : ℕ) → n ≤ length text → NoDigit text n → b ≡ byte_at text n → 122 < b
-    → BreaksIn text n n
-past_axes text n b h g e l =
-    no_front text n h
-    (λ w. let q = byte_of_lem text n b e w in
+axis_at text n a i =
     record {
-      digit = g.none w;
-      space = λ z. omega arith;
-      bracket = λ z. omega arith;
-      x = λ z. omega arith;
-      y = λ z. omega arith;
-      z = λ z. omega arith;
-      a = λ z. omega arith;
-      s = λ z. omega arith;
-      r = λ z. omega arith;
-      m = λ z. omega arith;
-    })
-
-pub no_leaf : (text : List ℕ) (n b : ℕ) → NoSpace text n → NoDigit text n → b ≡ byte_at text n → b ≢ 40 → b < 120
-    → NoLeaf text n
-no_leaf text n b s d e f h =
-    record {
-      digit = d;
-      space = s;
-      bracket = other text n b 40 e f;
-      below = λ w. omega (arith, byte_of_lem text n b e w);
+      tree = axis (axis_of a);
+      read = λ d. rw (add-one n) (axis_read text n d (axis_of a) i.within i.byte);
+      clause = λ s. refl;
+      small = tt;
+      on = omega arith;
+      within = omega (arith, i.within);
     }

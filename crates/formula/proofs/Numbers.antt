@@ -20,9 +20,9 @@ use Rattle.formula_rules.proofs.FormulaNumbers.{digit_below}
 use Rattle.formula_rules.proofs.FormulaItems.{digit_start, digit_step, point_step, decimal_start, decimal_step, no_decimal}
 use Rattle.formula_rules.proofs.FormulaItems.{whole_read, decimal_read, mode_ends}
 use Rattle.formula.specs.declared.digits.Run.{Run}
-use Rattle.formula.specs.Bytes.{byte_at, Ran, none, next, RanOut}
-use Rattle.formula.specs.Heads.{LeafAt, BreaksIn, NoDigit}
-use Rattle.formula.proofs.Bytes.{Here, here, other, byte_of_lem}
+use Rattle.formula.specs.declared.steps.Step.TheVariants as kind
+use Rattle.formula.specs.Bytes.{Here, NotHere, NoDigit, IsDigit, Ran, none, next, RanOut}
+use Rattle.formula.specs.Heads.{LeafAt, BreaksIn}
 
 -- As long as there are digits, and below their power of 10.
 pub ran_on : {text : List ℕ} {n most top j v k : ℕ} → Ran text n most top j v k → j ≡ n + k
@@ -38,19 +38,6 @@ ran_none : {text : List ℕ} {n most top j v : ℕ} → Ran text n most top j v 
 ran_none none = (refl, refl)
 
 -- Digit by digit, as long as one more may stand there.
-no_digit_low : (b : ℕ) → b < 48 → is_digit b ≡ false
-no_digit_low b h = rw (lt-leb 48 b h)
-
-no_digit_high : (b : ℕ) → 57 < b → is_digit b ≡ false
-no_digit_high b h = rw (lt-leb b 57 h) (none (leb 48 b))
-  where
-    none : (t : Bool) → (t && false) ≡ false
-    none true = refl
-    none false = refl
-
-digit_there : (b : ℕ) → 48 ≤ b → b ≤ 57 → is_digit b ≡ true
-digit_there b h g = rw (le-leb 48 b h, le-leb b 57 g)
-
 pub record Running (text : List ℕ) (n most top j v k : ℕ) : Type 0 where
   pub ran : Ran text n most top j v k
   pub within : j ≤ length text
@@ -76,39 +63,26 @@ module _ (text : List ℕ) (n most top j v k : ℕ) (s : Running text n most top
       none true = refl
       none false = refl
 
-  module _ (b : ℕ) (e : b ≡ byte_at text j) where
-    no_more : is_digit b ≡ false → RanOut text n most top (run_of j v k)
-    no_more f =
-        out
-        (λ w. let q = byte_of_lem text j b e w in
-        rw q (ap (λ t. t && (leb (suc k) most && leb (10 * v + (b - 48)) top)) f))
+  pub out_none : NoDigit text j → RanOut text n most top (run_of j v k)
+  out_none h =
+      out
+      (λ w. ap (λ t. t && (leb (suc k) most && leb (10 * v + (get_or text j 0 - 48)) top)) (h.none w))
 
-    pub out_low : b < 48 → RanOut text n most top (run_of j v k)
-    out_low h = no_more (no_digit_low b h)
-
-    pub out_high : 57 < b → RanOut text n most top (run_of j v k)
-    out_high h = no_more (no_digit_high b h)
-
-    pub out_top : top < 10 * v + (b - 48) → RanOut text n most top (run_of j v k)
+  module _ (b : ℕ) (d : IsDigit text j b) where
+    pub out_top : top < 10 * v + b → RanOut text n most top (run_of j v k)
     out_top h =
-        out
-        (λ w. let q = byte_of_lem text j b e w in
-        rw (q, lt-leb (10 * v + (b - 48)) top h) (none (is_digit b) (leb (suc k) most)))
+        out (λ w. rw (← d.value, lt-leb (10 * v + b) top h) (none (is_digit (get_or text j 0)) (leb (suc k) most)))
       where
         none : (t u : Bool) → (t && (u && false)) ≡ false
         none true true = refl
         none true false = refl
         none false u = refl
 
-    pub running_next : 48 ≤ b → b ≤ 57 → k < most → 10 * v + (b - 48) ≤ top
-        → Running text n most top (j + 1) (10 * v + (b - 48)) (k + 1)
-    running_next h g l m =
-        let i = here text j b b e refl (omega arith) in
-        let q = i.byte in
-        let d : is_digit (get_or text j 0) ≡ true = ap is_digit q ∙ digit_there b h g in
+    pub running_next : k < most → 10 * v + b ≤ top → Running text n most top (j + 1) (10 * v + b) (k + 1)
+    running_next l m =
         record {
-          ran = rw (add-one j, add-one k, ← q) (next j v k s.ran i.within d l (rw q m));
-          within = omega (arith, i.within);
+          ran = rw (add-one j, add-one k, d.value) (next j v k s.ran d.within d.digit l (rw (← d.value) m));
+          within = omega (arith, d.within);
           some = omega arith;
           small = m;
         }
@@ -160,16 +134,15 @@ none_there text n most top r h g o e = by r.at r.value r.count e o.ran o.ends
 small_whole : (v : ℕ) → v ≤ 32767 → 65536 * v < 2147483648
 small_whole v h = omega arith
 
-pub whole_at : (text : List ℕ) (n b : ℕ) (r : Run) → RanOut text n 5 32767 r → r.count ≢ 0
-    → b ≡ byte_at text r.at → b ≢ 46 → LeafAt text n r.at 0 (65536 * r.value)
+pub whole_at : (text : List ℕ) (n : ℕ) (r : Run) → RanOut text n 5 32767 r → r.count ≢ 0
+    → NotHere text r.at 46 → LeafAt text n r.at (kind.Number (65536 * r.value))
 unfolding clauses_at
-whole_at text n b r o f e q =
+whole_at text n r o f q =
     record {
       tree = number (pos (whole_units r.value));
       read = λ d. whole_read text n r.at d r.value r.count (mode r.at r.value r.count f o.ran)
-          (λ w. (o.ends w, other text r.at b 46 e q w));
+          (λ w. (o.ends w, q.other w));
       clause = λ s. refl;
-      low = omega arith;
       small = small_whole r.value o.small;
       on = omega (arith, ran_on o.ran, some r.count f);
       within = o.within;
@@ -221,7 +194,7 @@ drop_top true true z e f = absurd (true≢false (sym (f refl refl) ∙ e))
 
 pub decimal_at : (text : List ℕ) (n m v t : ℕ) (r : Run) → ModeRead text n m (point v) → n < m → v ≤ 32767
     → RanOut text m 4 9999 r → r.count ≢ 0 → t ≡ 10 ^ r.count
-    → LeafAt text n r.at 0 (65536 * v + 65536 * r.value / t)
+    → LeafAt text n r.at (kind.Number (65536 * v + 65536 * r.value / t))
 unfolding clauses_at
 decimal_at text n m v t r p on h o f e =
     let j = r.at in
@@ -234,7 +207,6 @@ decimal_at text n m v t r p on h o f e =
           (λ g q. le-leb (10 * r.value + (b - 48)) 9999
           (top r.value r.count b (ran_below o.ran) (leb-true (suc r.count) 4 q) (digit_below b g))));
       clause = λ s. refl;
-      low = omega arith;
       small = omega (arith, part_below r.value (10 ^ r.count) (ran_below o.ran));
       on = omega (arith, ran_on o.ran);
       within = o.within;

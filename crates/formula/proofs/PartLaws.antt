@@ -1,25 +1,29 @@
 -- How the calls that read parts compose: each from what the calls that it makes promise.
 use mathlib.Core.Path.{◌≡◌, sym, subst, ap, ◌∙◌}
 use mathlib.Core.List.{List}
-use mathlib.Core.Logic.{◌≢◌}
-use lib.IntN.{ℤ, pos}
+use lib.IntN.{pos}
 use Prim.Native.Nat.{ℕ, suc, ◌+◌, ◌-◌, ◌*◌, ◌≤◌, ◌<◌}
 use native.Mathlib.Numerals.{add-one}
 use native.Mathlib.Omega.{arith}
 use lib.ListN.{length}
-use Rattle.formula_rules.specs.Trees.{Tree, Unary, Binary, unary, binary}
+use Rattle.std.proofs.Common.{Result, Ok, Err}
+use Rattle.formula_rules.specs.Trees.{Tree}
+use Rattle.formula_rules.specs.Trees as tree
 use Rattle.formula_rules.specs.FormulaTapes.{unary_opcode, binary_opcode, step}
-use Rattle.formula_rules.specs.FormulaDepths.{Sheet, clauses_at, emit, emit_all}
-use Rattle.formula_rules.proofs.FormulaSheets.{emit_unary, emit_binary, emitted_length}
+use Rattle.formula_rules.specs.FormulaDepths.{clauses_at, emit, emit_all}
+use Rattle.formula_rules.specs.FormulaDepths as depths
+use Rattle.formula_rules.proofs.FormulaSheets.{emit_unary, emit_binary}
 use Rattle.formula_rules.specs.FormulaReader.{Answer}
-use Rattle.formula.specs.declared.sheet.Cursor.{Cursor}
-use Rattle.formula.specs.declared.parts.Stop.{Stop}
-use Rattle.formula.specs.declared.parts.Read.{Read}
-use Rattle.formula.specs.declared.parts.Read.TheVariants as read
-use Rattle.formula.specs.Cursors.{sheet_on, Emitted}
-use Rattle.formula.specs.Heads.{LeafAt}
-use Rattle.formula.specs.Parts.{leaf_clause, unary_clause, binary_clause, CanWrite, Room, moved_to, Got, Reads}
-use Rattle.formula.specs.Parts.{answer_of}
+use Rattle.formula.specs.declared.text.Stop.{Stop}
+use Rattle.formula.specs.declared.sheet.Sheet.{Sheet}
+use Rattle.formula.specs.declared.steps.Unary.{Unary}
+use Rattle.formula.specs.declared.steps.Binary.{Binary}
+use Rattle.formula.specs.declared.steps.Step.{Step}
+use Rattle.formula.specs.declared.steps.Step.TheVariants as kind
+use Rattle.formula.specs.Steps.{unary_of, binary_of, IsSmall}
+use Rattle.formula.specs.Sheets.{sheet_on, CanPush, Pushed}
+use Rattle.formula.specs.Heads.{answer_of, LeafAt}
+use Rattle.formula.specs.Parts.{Room, Got, Reads}
 
 pub from_suc : (P : ℕ → Type 0) (n : ℕ) → P (suc n) → P (n + 1)
 from_suc P n = subst P (sym (add-one n))
@@ -27,143 +31,122 @@ from_suc P n = subst P (sym (add-one n))
 pub to_suc : (P : ℕ → Type 0) (n : ℕ) → P (n + 1) → P (suc n)
 to_suc P n = subst P (add-one n)
 
--- The sheet keeps its length.
-pub got_length : {R : ℕ → Tree → Type 0} {text : List ℕ} {c : Cursor} {slot : ℕ} {zs zs' : List ℤ} {c' : Cursor}
-    → Got R text c slot zs zs' c' → length zs' ≡ length zs
-got_length {c = c} {slot = slot} {zs = zs} g =
-    ap (λ (w : Sheet). length w.list) g.sheet ∙ emitted_length (clauses_at slot g.tree) (sheet_on zs c)
-
 -- What was read is a part of another kind; it was read from further back.
-pub got_as : {R Q : ℕ → Tree → Type 0} {text : List ℕ} {c : Cursor} {slot : ℕ} {zs zs' : List ℤ} {c' : Cursor} (n : ℕ)
-    → c.at ≤ n → ((m : ℕ) (t : Tree) → R m t → Q m t) → Got R text (moved_to c n) slot zs zs' c'
-    → Got Q text c slot zs zs' c'
-got_as {c' = c'} n h f g =
+pub got_as : {R Q : ℕ → Tree → Type 0} {text : List ℕ} {n slot m : ℕ} {s s' : Sheet} (k : ℕ) → n ≤ k
+    → ((m : ℕ) (t : Tree) → R m t → Q m t) → Got R text k slot s s' m → Got Q text n slot s s' m
+got_as {m = m} k h f g =
     record {
       tree = g.tree;
-      read = f c'.at g.tree g.read;
+      read = f m g.tree g.read;
       within = g.within;
       sheet = g.sheet;
       more = g.more;
       paid = omega (arith, g.paid);
     }
 
-pub reads_as : {R Q : ℕ → Tree → Type 0} {S T : Answer → Type 0} (text : List ℕ) (c : Cursor) (slot : ℕ)
-    (zs zs' : List ℤ) (r : Read) (n : ℕ) → c.at ≤ n → ((m : ℕ) (t : Tree) → R m t → Q m t)
-    → ((a : Answer) → S a → T a) → Reads R S text (moved_to c n) slot zs zs' r → Reads Q T text c slot zs zs' r
-reads_as text c slot zs zs' (read.Part c') n h f k g = got_as n h f g
-reads_as text c slot zs zs' (read.Stopped s) n h f k g = k (answer_of s) g
+-- Spaces may follow it.
+pub got_on_to : {R Q : ℕ → Tree → Type 0} {text : List ℕ} {n slot m : ℕ} {s s' : Sheet} (k : ℕ) → m ≤ k
+    → k ≤ length text → ((t : Tree) → R m t → Q k t) → Got R text n slot s s' m → Got Q text n slot s s' k
+got_on_to k h w f g =
+    record {
+      tree = g.tree;
+      read = f g.tree g.read;
+      within = w;
+      sheet = g.sheet;
+      more = g.more;
+      paid = omega (arith, g.paid);
+    }
+
+pub reads_as : {R Q : ℕ → Tree → Type 0} {S T : Answer → Type 0} (text : List ℕ) (n slot : ℕ) (s s' : Sheet)
+    (r : Result ℕ Stop) (k : ℕ) → n ≤ k → ((m : ℕ) (t : Tree) → R m t → Q m t) → ((a : Answer) → S a → T a)
+    → Reads R S text k slot s s' r → Reads Q T text n slot s s' r
+reads_as text n slot s s' (Ok m) k h f e g = got_as k h f g
+reads_as text n slot s s' (Err a) k h f e g = e (answer_of a) g
 
 -- An item of one clause, an operation after its operand, and one after its two.
-pub got_leaf : {Q : ℕ → Tree → Type 0} {text : List ℕ} {c : Cursor} {slot : ℕ} {zs zs' : List ℤ} {c' : Cursor}
-    (m code units : ℕ) (l : LeafAt text c.at m code units) → Q m l.tree
-    → Emitted zs (moved_to c m) (leaf_clause code slot units) zs' c' → Got Q text c slot zs zs' c'
+pub got_leaf : {Q : ℕ → Tree → Type 0} {text : List ℕ} {n slot : ℕ} {s s' : Sheet} (m : ℕ) (x : Step)
+    (l : LeafAt text n m x) → Q m l.tree → Pushed s x slot s' → Got Q text n slot s s' m
 unfolding emit_all
-got_leaf {Q} {c = c} {slot = slot} {zs = zs} m code units l q e =
+got_leaf {slot = slot} {s = s} m x l q e =
     record {
       tree = l.tree;
-      read = subst (λ k. Q k l.tree) (sym e.place) q;
-      within = omega (arith, l.within, e.place);
-      sheet = e.sheet ∙ sym (ap (λ cs. emit_all cs (sheet_on zs c)) (l.clause slot));
+      read = q;
+      within = l.within;
+      sheet = e.sheet ∙ sym (ap (λ cs. emit_all cs (sheet_on s)) (l.clause slot));
       more = omega (arith, e.count);
-      paid = omega (arith, e.count, e.place, l.on);
+      paid = omega (arith, e.count, l.on);
     }
 
-pub got_unary : {R Q : ℕ → Tree → Type 0} {text : List ℕ} {c : Cursor} {slot : ℕ} {zs zs' zs'' : List ℤ} {c' c'' : Cursor}
-    (n : ℕ) (u : Unary) → c.at < n → (g : Got R text (moved_to c n) slot zs zs' c')
-    → Q c'.at (unary u g.tree) → Emitted zs' c' (unary_clause (unary_opcode u) slot) zs'' c''
-    → Got Q text c slot zs zs'' c''
-got_unary {Q = Q} {c = c} {slot = slot} {zs = zs} n u h g q e =
-    let t = unary u g.tree in
+pub got_unary : {R Q : ℕ → Tree → Type 0} {text : List ℕ} {n slot m : ℕ} {s s' s'' : Sheet} (k : ℕ) (u : Unary)
+    (v : tree.Unary) → unary_of u ≡ v → n < k → (g : Got R text k slot s s' m) → Q m (tree.unary v g.tree)
+    → Pushed s' (kind.Unary u) slot s'' → Got Q text n slot s s'' m
+got_unary {slot = slot} {s = s} {s' = s'} k u v w h g q e =
     record {
-      tree = t;
-      read = subst (λ k. Q k t) (sym e.place) q;
-      within = omega (arith, g.within, e.place);
-      sheet = e.sheet ∙ ap (emit _) g.sheet ∙ sym (emit_unary slot (sheet_on zs c) u g.tree);
+      tree = tree.unary v g.tree;
+      read = q;
+      within = g.within;
+      sheet = e.sheet ∙ ap (λ x. emit (step (unary_opcode x) slot slot 0 (pos 0)) (sheet_on s')) w ∙ ap (emit _) g.sheet
+          ∙ sym (emit_unary slot (sheet_on s) v g.tree);
       more = omega (arith, g.more, e.count);
-      paid = omega (arith, g.paid, e.count, e.place);
+      paid = omega (arith, g.paid, e.count);
     }
 
-pub got_binary : {L R Q : ℕ → Tree → Type 0} {text : List ℕ} {c : Cursor} {slot : ℕ} {zs zs₁ zs₂ zs₃ : List ℤ}
-    {c₁ c₂ c₃ : Cursor} (n : ℕ) (b : Binary) (g : Got L text c slot zs zs₁ c₁) → c₁.at < n
-    → (h : Got R text (moved_to c₁ n) (slot + 1) zs₁ zs₂ c₂) → Q c₂.at (binary b g.tree h.tree)
-    → Emitted zs₂ c₂ (binary_clause (binary_opcode b) slot) zs₃ c₃ → Got Q text c slot zs zs₃ c₃
-got_binary {Q = Q} {c = c} {slot = slot} {zs = zs} {zs₁ = zs₁} {c₁ = c₁} n b g l h q e =
-    let t = binary b g.tree h.tree in
+pub got_binary : {L R Q : ℕ → Tree → Type 0} {text : List ℕ} {n slot m₁ m₂ : ℕ} {s s₁ s₂ s₃ : Sheet} (k : ℕ)
+    (b : Binary) (v : tree.Binary) → binary_of b ≡ v → (g : Got L text n slot s s₁ m₁) → m₁ < k
+    → (h : Got R text k (slot + 1) s₁ s₂ m₂) → Q m₂ (tree.binary v g.tree h.tree)
+    → Pushed s₂ (kind.Binary b) slot s₃ → Got Q text n slot s s₃ m₂
+got_binary {slot = slot} {s = s} {s₁ = s₁} {s₂ = s₂} k b v w g l h q e =
     record {
-      tree = t;
-      read = subst (λ k. Q k t) (sym e.place) q;
-      within = omega (arith, h.within, e.place);
-      sheet = e.sheet ∙ both h.sheet ∙ sym (emit_binary slot (sheet_on zs c) b g.tree h.tree);
+      tree = tree.binary v g.tree h.tree;
+      read = q;
+      within = h.within;
+      sheet = e.sheet ∙ ap (λ x. emit (step (binary_opcode x) slot slot (suc slot) (pos 0)) (sheet_on s₂)) w ∙ both h.sheet
+          ∙ sym (emit_binary slot (sheet_on s) v g.tree h.tree);
       more = omega (arith, g.more, h.more, e.count);
-      paid = omega (arith, g.paid, h.paid, e.count, e.place);
+      paid = omega (arith, g.paid, h.paid, e.count);
     }
   where
-    both : {w : Sheet} → w ≡ emit_all (clauses_at (slot + 1) h.tree) (sheet_on zs₁ c₁)
-        → emit (step (binary_opcode b) slot slot (slot + 1) (pos 0)) w
-        ≡ emit (step (binary_opcode b) slot slot (suc slot) (pos 0))
-        (emit_all (clauses_at (suc slot) h.tree) (emit_all (clauses_at slot g.tree) (sheet_on zs c)))
-    both x =
-        ap (emit _) x
-        ∙ ap (λ k. emit (step (binary_opcode b) slot slot k (pos 0)) (emit_all (clauses_at k h.tree) (sheet_on zs₁ c₁)))
+    both : {x : depths.Sheet} → x ≡ emit_all (clauses_at (slot + 1) h.tree) (sheet_on s₁)
+        → emit (step (binary_opcode v) slot slot (suc slot) (pos 0)) x
+        ≡ emit (step (binary_opcode v) slot slot (suc slot) (pos 0))
+        (emit_all (clauses_at (suc slot) h.tree) (emit_all (clauses_at slot g.tree) (sheet_on s)))
+    both y =
+        ap (emit _) y
+        ∙ ap (λ k. emit (step (binary_opcode v) slot slot (suc slot) (pos 0)) (emit_all (clauses_at k h.tree) (sheet_on s₁)))
         (add-one slot)
         ∙ ap
-        (λ v. emit (step (binary_opcode b) slot slot (suc slot) (pos 0)) (emit_all (clauses_at (suc slot) h.tree) v))
+        (λ x. emit (step (binary_opcode v) slot slot (suc slot) (pos 0)) (emit_all (clauses_at (suc slot) h.tree) x))
         g.sheet
 
--- What a call's answer says in the arm that it has.
-pub in_part : (R : ℕ → Tree → Type 0) (S : Answer → Type 0) {text : List ℕ} {c : Cursor} {slot : ℕ} {zs zs' : List ℤ}
-    {r : Read} {c' : Cursor} → r ≡ read.Part c' → Reads R S text c slot zs zs' r → Got R text c slot zs zs' c'
-in_part R S {text} {c} {slot} {zs} {zs'} e g = subst (Reads R S text c slot zs zs') e g
-
-pub in_stop : (R : ℕ → Tree → Type 0) (S : Answer → Type 0) (text : List ℕ) (c : Cursor) (slot : ℕ) (zs zs' : List ℤ)
-    {r : Read} {s : Stop} → r ≡ read.Stopped s → Reads R S text c slot zs zs' r → S (answer_of s)
-in_stop R S text c slot zs zs' e g = subst (Reads R S text c slot zs zs') e g
-
--- Room for the calls that follow: from a later place, for the right operand of a join, inside one more bracket.
-pub room_from : {text : List ℕ} {zs : List ℤ} {c : Cursor} {slot depth : ℕ} (n : ℕ) → Room text zs c slot depth
-    → c.at ≤ n → n ≤ length text → Room text zs (moved_to c n) slot depth
-room_from n r h w =
-    record { within = w; paid = omega (arith, r.paid); waits = r.waits; nest = r.nest; list = r.list }
-
-pub room_right : {R : ℕ → Tree → Type 0} {text : List ℕ} {zs zs' : List ℤ} {c c' : Cursor} {slot depth : ℕ} (k n : ℕ)
-    → Room text zs c slot depth → c.at ≤ k → Got R text (moved_to c k) slot zs zs' c' → c'.at ≤ n → n ≤ length text
-    → Room text zs' (moved_to c' n) (slot + 1) depth
-room_right k n r b g h w =
+-- Room for the right operand of a join.
+pub room_right : {R : ℕ → Tree → Type 0} {text : List ℕ} {s s' : Sheet} {n m slot depth : ℕ} (i k : ℕ)
+    → Room text s n slot depth → n ≤ i → Got R text i slot s s' m → m ≤ k → k ≤ length text
+    → Room text s' k (slot + 1) depth
+room_right i k r b g h w =
     record {
       within = w;
       paid = omega (arith, r.paid, g.paid);
       waits = omega (arith, r.waits, g.more);
       nest = r.nest;
-      list = got_length g ∙ r.list;
     }
 
-pub room_inside : {text : List ℕ} {zs : List ℤ} {c : Cursor} {slot depth : ℕ} (n : ℕ) → Room text zs c slot depth
-    → c.at ≤ n → n ≤ length text → depth ≢ 32 → Room text zs (moved_to c n) slot (depth + 1)
-room_inside n r h w q =
+-- Room for a clause after a part, and after the right operand of a join.
+pub can_push : {R : ℕ → Tree → Type 0} {text : List ℕ} {s s' : Sheet} {n m slot depth : ℕ} (k : ℕ) (x : Step)
+    → Room text s n slot depth → n ≤ k → Got R text k slot s s' m → IsSmall x → length text < 9223372036854775808
+    → CanPush s' x slot
+can_push k x r b g h l =
     record {
-      within = w;
-      paid = omega (arith, r.paid);
-      waits = r.waits;
-      nest = omega (arith, r.nest, q);
-      list = r.list;
-    }
-
--- Room for a clause: of an item, and after a part.
-pub can_leaf : {text : List ℕ} {zs : List ℤ} {c : Cursor} {slot depth : ℕ} (n code : ℕ) → Room text zs c slot depth
-    → code ≤ 14 → length text < 9223372036854775808 → CanWrite zs (moved_to c n) code slot
-can_leaf n code r h l =
-    record { room = r.list; opcode = h; slot = r.waits; few = omega (arith, r.paid, r.within) }
-
-pub can_write : {R : ℕ → Tree → Type 0} {text : List ℕ} {zs zs' : List ℤ} {c c' : Cursor} {slot depth : ℕ} (k code : ℕ)
-    → Room text zs c slot depth → c.at ≤ k → Got R text (moved_to c k) slot zs zs' c' → code ≤ 14
-    → length text < 9223372036854775808 → CanWrite zs' c' code slot
-can_write k code r b g h l =
-    record {
-      room = got_length g ∙ r.list;
-      opcode = h;
-      slot = omega (arith, r.waits, g.more);
+      waits = omega (arith, r.waits, g.more);
+      small = h;
       few = omega (arith, r.paid, g.paid, g.within);
     }
+
+pub can_join : {R : ℕ → Tree → Type 0} {text : List ℕ} {s s' : Sheet} {n m slot depth : ℕ} (k : ℕ) (x : Step)
+    → Room text s n (slot + 1) depth → n ≤ k → Got R text k (slot + 1) s s' m → IsSmall x
+    → length text < 9223372036854775808 → CanPush s' x slot
+can_join k x r b g h l =
+    let p = can_push k x r b g h l in
+    record { waits = omega (arith, p.waits); small = h; few = p.few }
 
 -- The measures of the calls: six to a byte that is left. A call at a later place falls, whichever it is; one at the
 -- same place by its rank.
@@ -174,12 +157,11 @@ pub falls_here : (l n m t j k : ℕ) → 6 * (l - n) + k ≡ t → n ≤ m → j
 falls_here l n m t j k e h q = omega arith
 
 -- A part has a byte at least.
-pub got_on : {R : ℕ → Tree → Type 0} {text : List ℕ} {c : Cursor} {slot : ℕ} {zs zs' : List ℤ} {c' : Cursor}
-    → Got R text c slot zs zs' c' → c.at < c'.at
+pub got_on : {R : ℕ → Tree → Type 0} {text : List ℕ} {n slot m : ℕ} {s s' : Sheet} → Got R text n slot s s' m → n < m
 got_on g = omega (arith, g.more, g.paid)
 
 -- The turns of a loop of joins: whatever was read up to where the loop began, is read up to here, as a part of the same
 -- kind.
-pub record Onward (R : ℕ → ℕ → Tree → Type 0) (text : List ℕ) (slot : ℕ) (zs₀ : List ℤ) (l₀ : Cursor) (zs : List ℤ)
-    (l : Cursor) : Type 0 where
-  pub got : (c : Cursor) (ys : List ℤ) → Got (R c.at) text c slot ys zs₀ l₀ → Got (R c.at) text c slot ys zs l
+pub record Onward (R : ℕ → ℕ → Tree → Type 0) (text : List ℕ) (slot : ℕ) (s₀ : Sheet) (l₀ : ℕ) (s : Sheet) (l : ℕ)
+    : Type 0 where
+  pub got : (n : ℕ) (z : Sheet) → Got (R n) text n slot z s₀ l₀ → Got (R n) text n slot z s l

@@ -1,7 +1,8 @@
 -- What the contracts of this crate, and of those above it, cite besides the rules.
 pub mod Bytes
 pub mod Heads
-pub mod Cursors
+pub mod Steps
+pub mod Sheets
 pub mod Joins
 pub mod Says
 pub mod Parts

@@ -1,9 +1,9 @@
 // Numbers: 1 to 5 digits, then a point and 1 to 4 digits if wished, in units rounded down.
-ghost use Rattle.std.specs.Prelude.{◌≡◌, ◌≤◌, ◌^◌, length};
-ghost use Rattle.formula.specs.Bytes.{RanOut};
+ghost use Rattle.std.specs.Prelude.{◌≤◌, length};
+ghost use Rattle.formula.specs.Bytes.{DigitAt, RanOut};
 ghost use Rattle.formula.specs.Heads.{NumberAt};
 
-use crate::text::peek;
+use crate::text::{Stop, peek};
 
 // "1 to 5 digits, whole part at most 32,767, then if wished a point and 1 to 4 digits".
 const WHOLE_DIGITS: u32 = 5;
@@ -13,8 +13,6 @@ const WHOLE_LIMIT: u32 = 32767;
 const DECIMALS: u32 = 4;
 
 const DECIMAL_LIMIT: u32 = 9999;
-
-const POINT: u32 = 46;
 
 const UNIT: u32 = 65536;
 
@@ -26,76 +24,68 @@ pub struct Run {
     pub count: u32,
 }
 
-// What a number comes to: no digit stands there; or it ends there; or the text breaks off there.
+// A number in units, and where it ends.
 #[derive(Clone, Copy)]
-pub enum Numeral {
-    No,
-    Ends(usize, u32),
-    Breaks(usize),
+pub struct Decimal {
+    pub end: usize,
+    pub units: u32,
+}
+
+fn digit(text: &[u8], at: usize) -> Option<u32>
+    ensures { DigitAt text.now at result }
+{
+    match peek(text, at) {
+        Some(b @ b'0'..=b'9') => Some(u32::from(b - b'0')),
+        _ => None,
+    }
 }
 
 // As many digits from `from` on as may stand there.
 fn digits(text: &[u8], from: usize, most: u32, top: u32) -> Run
-    requires { (from ≤ length text.now) × (top ≤ 32767) }
+    requires { (from ≤ length text.now) × (top ≤ 32767) × (most ≤ 5) }
     ensures { RanOut text.now from most top result }
 {
-    let mut at = from;
-    let mut value: u32 = 0;
-    let mut count: u32 = 0;
-    while count < most {
-        let b = peek(text, at);
-        if b < 48 {
-            return Run { at, value, count };
+    let mut value = 0;
+    for count in 0..most {
+        let at = from + count as usize;
+        let run = Run { at, value, count };
+        let Some(more) = digit(text, at) else {
+            return run;
+        };
+        value = 10 * value + more;
+        if top < value {
+            return run;
         }
-        if 57 < b {
-            return Run { at, value, count };
-        }
-        let more = 10 * value + (b - 48);
-        if top < more {
-            return Run { at, value, count };
-        }
-        value = more;
-        count += 1;
-        at += 1;
     }
-    Run { at, value, count }
-}
-
-fn ten_to(count: u32) -> u32
-    requires { (1 ≤ count) × (count ≤ 4) }
-    ensures { result ≡ 10 ^ count }
-{
-    if count == 1 {
-        return 10;
+    Run {
+        at: from + most as usize,
+        value,
+        count: most,
     }
-    if count == 2 {
-        return 100;
-    }
-    if count == 3 {
-        return 1000;
-    }
-    10000
 }
 
 // The number at `from`, if a digit stands there.
-pub fn number(text: &[u8], from: usize) -> Numeral
+pub fn number(text: &[u8], from: usize) -> Result<Option<Decimal>, Stop>
     requires { from ≤ length text.now }
     ensures { NumberAt text.now from result }
 {
     let whole = digits(text, from, WHOLE_DIGITS, WHOLE_LIMIT);
-    let end = whole.at;
     if whole.count == 0 {
-        return Numeral::No;
+        return Ok(None);
     }
-    if peek(text, end) != POINT {
-        return Numeral::Ends(end, UNIT * whole.value);
+    let units = UNIT * whole.value;
+    if peek(text, whole.at) != Some(b'.') {
+        return Ok(Some(Decimal {
+            end: whole.at,
+            units,
+        }));
     }
-    let part = digits(text, end + 1, DECIMALS, DECIMAL_LIMIT);
+    let part = digits(text, whole.at + 1, DECIMALS, DECIMAL_LIMIT);
     if part.count == 0 {
-        return Numeral::Breaks(end + 1);
+        return Err(Stop::Breaks(whole.at + 1));
     }
-    Numeral::Ends(
-        part.at,
-        UNIT * whole.value + UNIT * part.value / ten_to(part.count),
-    )
+    Ok(Some(Decimal {
+        end: part.at,
+        units: units + UNIT * part.value / 10_u32.pow(part.count),
+    }))
 }

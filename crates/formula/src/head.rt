@@ -1,135 +1,90 @@
 // The front of an item: a number, an axis, a bracket, or a name with its bracket.
-ghost use Rattle.std.specs.Prelude.{◌≡◌, ◌≤◌, ◌<◌, length};
-ghost use Rattle.formula.specs.Heads.{LastSays, LettersSay, AfterM, NoSpace, NoDigit, NoLeaf, WordAt, HeadAt};
+ghost use Rattle.std.specs.Prelude.{◌≤◌, length};
+ghost use Rattle.formula.specs.Heads.{NoSpace, NoLeaf, Spelt, AfterM, WordAt, HeadAt};
 
-use crate::digits::{Numeral, number};
-use crate::text::{peek, skip};
+use crate::digits::number;
+use crate::steps::{Axis, Binary, Function, Step, Unary};
+use crate::text::{Stop, expect, peek, skip};
 
-const OPEN: u32 = 40;
-
-// The opcodes of one operand that a name has; those of two are greater.
-const LAST_OF_ONE: u32 = 8;
-
-// A name: it ends there, and is the operation's with that opcode; or the text breaks off there.
+// A function, and where its name ends.
 #[derive(Clone, Copy)]
-pub enum Spelt {
-    Ends(usize, u32),
-    Breaks(usize),
+pub struct Name {
+    pub end: usize,
+    pub function: Function,
 }
 
-// The whole item, with the opcode and the constant of its clause; or its bracket opens there, the one of a name with
-// that opcode, of one sum (0: it has no name) or of two; or the text breaks off there.
+// The whole item, of one clause, and where it ends; or the bracket that opens there, of one sum, with what follows the
+// sum if something does, or of two.
 #[derive(Clone, Copy)]
 pub enum Front {
-    Leaf(usize, u32, u32),
-    One(usize, u32),
-    Two(usize, u32),
-    Breaks(usize),
+    Leaf(usize, Step),
+    One(usize, Option<Unary>),
+    Two(usize, Binary),
 }
 
-fn letter(text: &[u8], at: usize, last: u32, opcode: u32) -> Spelt
-    requires { (at ≤ length text.now) × (last < 256) }
-    ensures { LastSays text.now at last opcode result }
+// The function whose name's last letters must stand at `from`.
+fn spell(text: &[u8], from: usize, letters: &[u8], function: Function) -> Result<Name, Stop>
+    ensures { Spelt text.now from letters.now function result }
 {
-    if peek(text, at) != last {
-        return Spelt::Breaks(at);
+    let mut end = from;
+    for letter in letters {
+        end = expect(text, end, *letter)?;
     }
-    Spelt::Ends(at + 1, opcode)
-}
-
-fn letters(text: &[u8], at: usize, first: u32, last: u32, opcode: u32) -> Spelt
-    requires { (at ≤ length text.now) × ((first < 256) × (last < 256)) }
-    ensures { LettersSay text.now at first last opcode result }
-{
-    if peek(text, at) != first {
-        return Spelt::Breaks(at);
-    }
-    letter(text, at + 1, last, opcode)
-}
-
-// After an m: min or max.
-fn min_or_max(text: &[u8], at: usize) -> Spelt
-    requires { at ≤ length text.now }
-    ensures { AfterM text.now at result }
-{
-    let b = peek(text, at);
-    if b == 105 {
-        return letter(text, at + 1, 110, 12);
-    }
-    if b == 97 {
-        return letter(text, at + 1, 120, 13);
-    }
-    Spelt::Breaks(at)
+    Ok(Name { end, function })
 }
 
 // abs, sqr, root, min or max.
-fn word(text: &[u8], from: usize) -> Spelt
+fn word(text: &[u8], from: usize) -> Result<Name, Stop>
     requires { (from ≤ length text.now) × NoLeaf text.now from }
     ensures { WordAt text.now from result }
 {
-    let b = peek(text, from);
-    if b == 97 {
-        return letters(text, from + 1, 98, 115, 6);
+    match peek(text, from) {
+        Some(b'a') => spell(text, from + 1, b"bs", Function::One(Unary::Abs)),
+        Some(b's') => spell(text, from + 1, b"qr", Function::One(Unary::Sqr)),
+        Some(b'r') => spell(text, from + 1, b"oot", Function::One(Unary::Root)),
+        Some(b'm') => min_or_max(text, from + 1),
+        _ => Err(Stop::Breaks(from)),
     }
-    if b == 115 {
-        return letters(text, from + 1, 113, 114, 7);
+}
+
+// After an m.
+fn min_or_max(text: &[u8], at: usize) -> Result<Name, Stop>
+    requires { at ≤ length text.now }
+    ensures { AfterM text.now at result }
+{
+    match peek(text, at) {
+        Some(b'i') => spell(text, at + 1, b"n", Function::Two(Binary::Minimum)),
+        Some(b'a') => spell(text, at + 1, b"x", Function::Two(Binary::Maximum)),
+        _ => Err(Stop::Breaks(at)),
     }
-    if b == 109 {
-        return min_or_max(text, from + 1);
-    }
-    if b != 114 {
-        return Spelt::Breaks(from);
-    }
-    if peek(text, from + 1) != 111 {
-        return Spelt::Breaks(from + 1);
-    }
-    letters(text, from + 2, 111, 116, 8)
 }
 
 // A name, with the bracket that must follow it.
-fn name(text: &[u8], from: usize) -> Front
+fn called(text: &[u8], from: usize) -> Result<Front, Stop>
     requires { (from ≤ length text.now) × NoLeaf text.now from }
     ensures { HeadAt text.now from result }
 {
-    match word(text, from) {
-        Spelt::Ends(end, opcode) => {
-            let at = skip(text, end);
-            if peek(text, at) != OPEN {
-                return Front::Breaks(at);
-            }
-            if opcode <= LAST_OF_ONE {
-                return Front::One(at, opcode);
-            }
-            Front::Two(at, opcode)
-        }
-        Spelt::Breaks(at) => Front::Breaks(at),
+    let named = word(text, from)?;
+    let at = skip(text, named.end);
+    expect(text, at, b'(')?;
+    match named.function {
+        Function::One(operation) => Ok(Front::One(at, Some(operation))),
+        Function::Two(operation) => Ok(Front::Two(at, operation)),
     }
 }
 
-fn no_number(text: &[u8], from: usize) -> Front
-    requires { (from ≤ length text.now) × (NoSpace text.now from × NoDigit text.now from) }
-    ensures { HeadAt text.now from result }
-{
-    let b = peek(text, from);
-    if b == OPEN {
-        return Front::One(from, 0);
-    }
-    if b < 120 {
-        return name(text, from);
-    }
-    if 122 < b {
-        return Front::Breaks(from);
-    }
-    Front::Leaf(from + 1, b - 119, 0)
-}
-
-pub fn head(text: &[u8], from: usize) -> Front
+pub fn head(text: &[u8], from: usize) -> Result<Front, Stop>
     requires { (from ≤ length text.now) × NoSpace text.now from }
     ensures { HeadAt text.now from result }
 {
-    match number(text, from) {
-        Numeral::No => no_number(text, from),
-        Numeral::Ends(at, units) => Front::Leaf(at, 0, units),
-        Numeral::Breaks(at) => Front::Breaks(at),
+    if let Some(number) = number(text, from)? {
+        return Ok(Front::Leaf(number.end, Step::Number(number.units)));
+    }
+    match peek(text, from) {
+        Some(b'(') => Ok(Front::One(from, None)),
+        Some(b'x') => Ok(Front::Leaf(from + 1, Step::Axis(Axis::X))),
+        Some(b'y') => Ok(Front::Leaf(from + 1, Step::Axis(Axis::Y))),
+        Some(b'z') => Ok(Front::Leaf(from + 1, Step::Axis(Axis::Z))),
+        _ => called(text, from),
     }
 }

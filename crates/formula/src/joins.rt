@@ -1,32 +1,26 @@
-// The joins: the opcode of the join at a place, or 0.
+// The joins: the operation of the join at a place, if one stands there. Two tables of two rows each: one function
+// over both would be told the bytes and the operations of a row, and say nothing itself.
 ghost use Rattle.formula.specs.Joins.{PlusAt, TimesAt};
 
+use crate::steps::Binary;
 use crate::text::peek;
 
-// A + or a -.
-pub fn plus_at(text: &[u8], at: usize) -> u32
+pub fn plus_at(text: &[u8], at: usize) -> Option<Binary>
     ensures { PlusAt text.now at result }
 {
-    let b = peek(text, at);
-    if b == 43 {
-        return 9;
+    match peek(text, at) {
+        Some(b'+') => Some(Binary::Add),
+        Some(b'-') => Some(Binary::Subtract),
+        _ => None,
     }
-    if b == 45 {
-        return 10;
-    }
-    0
 }
 
-// A * or a /.
-pub fn times_at(text: &[u8], at: usize) -> u32
+pub fn times_at(text: &[u8], at: usize) -> Option<Binary>
     ensures { TimesAt text.now at result }
 {
-    let b = peek(text, at);
-    if b == 42 {
-        return 11;
+    match peek(text, at) {
+        Some(b'*') => Some(Binary::Multiply),
+        Some(b'/') => Some(Binary::Divide),
+        _ => None,
     }
-    if b == 47 {
-        return 14;
-    }
-    0
 }

@@ -7,6 +7,7 @@ mod digits;
 mod head;
 mod joins;
 mod parts;
-mod read_text;
+pub mod read_text;
 mod sheet;
+mod steps;
 mod text;

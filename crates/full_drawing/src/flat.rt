@@ -1,5 +1,5 @@
 // The full drawing of a flat picture: one bit a pixel, whole bytes in row order.
-ghost use Rattle.std.specs.Prelude.{◌≡◌, false, ◌+◌, ◌*◌, ◌<◌, ◌≤◌, min, length};
+ghost use Rattle.std.specs.Prelude.{◌≡◌, false, ◌+◌, ◌*◌, ◌<◌, ◌≤◌, length};
 ghost use Rattle.rules.specs.Tapes.{clause_limit};
 ghost use Rattle.rules.specs.Pictures.{stride as stride_of};
 ghost use Rattle.picture.specs.Shapes.{grid_in};
@@ -10,25 +10,17 @@ use crate::material::has_material;
 use picture::bits::{stride, with_pixel};
 use picture::grid::Grid;
 
-fn at_most_8(n: u32) -> u32
-    ensures { result ≡ min 8 n }
-{
-    if n < 8 { n } else { 8 }
-}
-
 // The byte of the pixels of row j from pixel i on: 8, or those that are left.
 fn row_byte(code: &[u64], grid: Grid, i: u32, j: u32) -> u8
     requires drawable { Drawable false code.now (grid_in grid false) }
     requires i_lt_width { (i < grid.width) × (j < grid.height) }
     ensures { Byte code.now (grid_in grid false) i j result }
 {
-    let count = at_most_8(grid.width - i);
+    let count = (grid.width - i).min(8);
     let mut byte = 0;
-    let mut k = 0;
-    while k < count {
+    for k in 0..count {
         let on = has_material(code, grid, i + k, j, grid.zorigin);
         byte = with_pixel(byte, k, on);
-        k += 1;
     }
     byte
 }
@@ -40,11 +32,8 @@ fn draw_row(code: &[u64], grid: Grid, j: u32, picture: &mut [u8], from: usize, r
     ensures { Put code.now (byte_row code.now (grid_in grid false) j) row from
         picture.old picture.new }
 {
-    let mut c = 0;
-    while c < row {
-        let byte = row_byte(code, grid, (8 * c) as u32, j);
-        picture[from + c] = byte;
-        c += 1;
+    for c in 0..row {
+        picture[from + c] = row_byte(code, grid, (8 * c) as u32, j);
     }
 }
 
@@ -58,11 +47,9 @@ pub fn draw_flat(code: &[u64], grid: Grid, picture: &mut [u8]) -> u64
     let width = grid.width as usize;
     let row = stride(width);
     let mut from = 0;
-    let mut j = 0;
-    while j < grid.height {
+    for j in 0..grid.height {
         draw_row(code, grid, j, picture, from, row);
         from += row;
-        j += 1;
     }
     full_count(code.len(), grid.width, grid.height, 1)
 }

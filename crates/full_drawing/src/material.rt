@@ -17,5 +17,5 @@ pub fn has_material(code: &[u64], grid: Grid, i: u32, j: u32, z: i32) -> bool
     let x = sample(grid.xorigin, grid.xstep, i);
     let y = sample(grid.yorigin, grid.ystep, j);
     let mut slots = [0i32; SLOT_LIMIT];
-    run_values(code, Sample { x: x, y: y, z: z }, &mut slots) < 0
+    run_values(code, Sample { x, y, z }, &mut slots) < 0
 }

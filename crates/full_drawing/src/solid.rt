@@ -15,30 +15,24 @@ fn column(code: &[u64], grid: Grid, i: u32, j: u32) -> u16
     ensures { Height code.now (grid_in grid true) i j result }
 {
     let mut height = 0;
-    let mut k = 0;
-    while k < grid.depth {
+    for k in 0..grid.depth {
         let z = sample(grid.zorigin, grid.zstep, k);
-        let above = k + 1;
         if has_material(code, grid, i, j, z) {
-            height = above as u16;
+            height = (k + 1) as u16;
         }
-        k = above;
     }
     height
 }
 
-// Row j, put from `from` on.
+// Row j, put from `from` on. One function with that of `flat` would take the type, the maker and the pixels of a place.
 fn draw_row(code: &[u64], grid: Grid, j: u32, picture: &mut [u16], from: usize)
     requires drawable { Drawable true code.now (grid_in grid true) }
     requires j_lt_height { (j < grid.height) × (from + grid.width ≤ length picture.old) }
     ensures { Put code.now (height_row code.now (grid_in grid true) j) grid.width from
         picture.old picture.new }
 {
-    let mut i = 0;
-    while i < grid.width {
-        let height = column(code, grid, i, j);
-        picture[from + i as usize] = height;
-        i += 1;
+    for i in 0..grid.width {
+        picture[from + i as usize] = column(code, grid, i, j);
     }
 }
 
@@ -50,11 +44,9 @@ pub fn draw_solid(code: &[u64], grid: Grid, picture: &mut [u16]) -> u64
     ensures { FullDrawn true code.now (grid_in grid true) picture.new result }
 {
     let mut from = 0;
-    let mut j = 0;
-    while j < grid.height {
+    for j in 0..grid.height {
         draw_row(code, grid, j, picture, from);
         from += grid.width as usize;
-        j += 1;
     }
     full_count(code.len(), grid.width, grid.height, grid.depth)
 }

@@ -4,12 +4,13 @@
 
 mod squares;
 
-ghost use Rattle.std.specs.Prelude.{◌<◌, neg_ℤ, length};
+ghost use Rattle.std.specs.Prelude.{◌≡◌, ◌<◌, neg_ℤ, length};
 ghost use Rattle.rules.specs.Values.{sum, difference, product, smaller, larger, quotient, absolute, square, root_of};
 ghost use Rattle.lanes.specs.Lanes.{All, NoneNegative, One, OneOfValues, Two, RowOf};
 
-use crate::squares::{clipped, low_size, low_squares, sizes, square_of};
+use crate::squares::{absolute_of, square_of, square_of_size};
 use fixed::value;
+use roots::eight::{each, two};
 
 // The same value in every lane.
 pub fn splat(v: i32) -> [i32; 8]
@@ -23,33 +24,19 @@ pub fn splat(v: i32) -> [i32; 8]
 pub fn negate(a: [i32; 8]) -> [i32; 8]
     ensures { OneOfValues neg_ℤ a result }
 {
-    let mut r = [0i32; 8];
-    let mut k = 0;
-    while k < 8 {
-        r[k] = value::subtract(0, a[k]);
-        k += 1;
-    }
-    r
+    each(value::opposite, a)
 }
 
 pub fn absolute(a: [i32; 8]) -> [i32; 8]
     ensures { OneOfValues absolute a result }
 {
-    let n = sizes(a);
-    let mut r = [0i32; 8];
-    let mut k = 0;
-    while k < 8 {
-        r[k] = low_size(n[k]);
-        k += 1;
-    }
-    r
+    each(absolute_of, a)
 }
 
 pub fn square(a: [i32; 8]) -> [i32; 8]
     ensures { One square a result }
 {
-    let n = sizes(a);
-    clipped(n, low_squares(n))
+    each(square_of, a)
 }
 
 // The same of sizes, which have no sign to take away.
@@ -57,13 +44,7 @@ pub fn square_sizes(n: [i32; 8]) -> [i32; 8]
     requires { NoneNegative n }
     ensures { One square n result }
 {
-    let mut r = [0i32; 8];
-    let mut k = 0;
-    while k < 8 {
-        r[k] = square_of(n[k]);
-        k += 1;
-    }
-    r
+    each(square_of_size, n)
 }
 
 // Row `to` becomes the roots of row `from`, which may be the same one. It has several callers, so that it is compiled
@@ -73,78 +54,41 @@ pub fn root_row(rows: &mut [[i32; 8]], from: usize, to: usize)
     requires to_in_bounds { to < length rows.old }
     ensures { RowOf root_of from to rows.old rows.new }
 {
-    let r = roots::roots8(rows[from]);
-    rows[to] = r;
+    rows[to] = roots::roots8(rows[from]);
 }
 
 pub fn add(a: [i32; 8], b: [i32; 8]) -> [i32; 8]
     ensures { Two sum a b result }
 {
-    let mut r = [0i32; 8];
-    let mut k = 0;
-    while k < 8 {
-        r[k] = value::add(a[k], b[k]);
-        k += 1;
-    }
-    r
+    two(value::add, a, b)
 }
 
 pub fn subtract(a: [i32; 8], b: [i32; 8]) -> [i32; 8]
     ensures { Two difference a b result }
 {
-    let mut r = [0i32; 8];
-    let mut k = 0;
-    while k < 8 {
-        r[k] = value::subtract(a[k], b[k]);
-        k += 1;
-    }
-    r
+    two(value::subtract, a, b)
 }
 
 pub fn multiply(a: [i32; 8], b: [i32; 8]) -> [i32; 8]
     ensures { Two product a b result }
 {
-    let mut r = [0i32; 8];
-    let mut k = 0;
-    while k < 8 {
-        r[k] = value::multiply(a[k], b[k]);
-        k += 1;
-    }
-    r
+    two(value::multiply, a, b)
 }
 
 pub fn minimum(a: [i32; 8], b: [i32; 8]) -> [i32; 8]
     ensures { Two smaller a b result }
 {
-    let mut r = [0i32; 8];
-    let mut k = 0;
-    while k < 8 {
-        r[k] = value::minimum(a[k], b[k]);
-        k += 1;
-    }
-    r
+    two(value::minimum, a, b)
 }
 
 pub fn maximum(a: [i32; 8], b: [i32; 8]) -> [i32; 8]
     ensures { Two larger a b result }
 {
-    let mut r = [0i32; 8];
-    let mut k = 0;
-    while k < 8 {
-        r[k] = value::maximum(a[k], b[k]);
-        k += 1;
-    }
-    r
+    two(value::maximum, a, b)
 }
 
 pub fn divide(a: [i32; 8], b: [i32; 8]) -> [i32; 8]
     ensures { Two quotient a b result }
 {
-    let mut r = [0i32; 8];
-    let mut k = 0;
-    while k < 8 {
-        r[k] = value::divide(a[k], b[k]);
-        k += 1;
-    }
-    r
+    two(value::divide, a, b)
 }

@@ -1,45 +1,9 @@
-// Squares of eight values: the sizes, whose products the machine makes several at once, and then the greatest value
-// where a size is past the last whose square is a value. Only a test of 32 bits is made side by side.
+// The size and the square of one lane. A square is made of the size, whose product the machine makes several at once, and
+// is the greatest value where the size is past the last whose square is a value. Only a test of 32 bits is made side by
+// side.
 ghost use Rattle.std.specs.Prelude.{false, ◌≡◌, ◌%◌, pos, nat_abs};
-ghost use Rattle.rules.specs.Values.{below, square};
-ghost use Rattle.lanes.specs.Squares.{Sizes, low_square, clipped_square, LowSquares, Clipped};
-
-pub fn sizes(a: [i32; 8]) -> [u32; 8]
-    ensures { Sizes a result }
-{
-    let mut n = [0u32; 8];
-    let mut k = 0;
-    while k < 8 {
-        n[k] = size_of(a[k]);
-        k += 1;
-    }
-    n
-}
-
-pub fn low_squares(n: [u32; 8]) -> [i32; 8]
-    ensures { LowSquares n result }
-{
-    let mut p = [0i32; 8];
-    let mut k = 0;
-    while k < 8 {
-        p[k] = low_square(n[k]);
-        k += 1;
-    }
-    p
-}
-
-pub fn clipped(n: [u32; 8], p: [i32; 8]) -> [i32; 8]
-    requires { LowSquares n p }
-    ensures { Clipped n result }
-{
-    let mut r = [0i32; 8];
-    let mut k = 0;
-    while k < 8 {
-        r[k] = clip(n[k], p[k]);
-        k += 1;
-    }
-    r
-}
+ghost use Rattle.rules.specs.Values.{IsValue, below, absolute, square};
+ghost use Rattle.lanes.specs.Squares.{low_square, clipped_square};
 
 fn size_of(a: i32) -> u32
     ensures { result ≡ nat_abs a }
@@ -51,11 +15,11 @@ fn size_of(a: i32) -> u32
     }
 }
 
-// The low 31 bits: of a value's size all.
-pub fn low_size(n: u32) -> i32
-    ensures { result ≡ pos (n % 2147483648) }
+// The low 31 bits of the size: of a value's all.
+pub fn absolute_of(a: i32) -> i32
+    ensures { IsValue a → result ≡ absolute a }
 {
-    (n % 0x8000_0000) as i32
+    (size_of(a) % 0x8000_0000) as i32
 }
 
 // The low 31 bits of the square.
@@ -72,8 +36,15 @@ fn clip(n: u32, p: i32) -> i32
     if 11863283 < n { 2147483647 } else { p }
 }
 
+pub fn square_of(a: i32) -> i32
+    ensures { result ≡ square a }
+{
+    let n = size_of(a);
+    clip(n, low_square(n))
+}
+
 // Of a size as a number with a sign: such numbers the machine compares several at once.
-pub fn square_of(n: i32) -> i32
+pub fn square_of_size(n: i32) -> i32
     requires { below n (pos 0) ≡ false }
     ensures { result ≡ square n }
 {

@@ -4,15 +4,20 @@ use mathlib.Core.Bool.{◌&&◌}
 use mathlib.Core.List.{List, [], ◌∷◌}
 use Prim.Native.Nat.{ℕ, zero, suc, ◌+◌, ◌*◌, ◌≤◌, ◌<◌}
 use native.Mathlib.Omega.{arith}
-use lib.Dec.{eqb, leb}
+use lib.Dec.{leb}
 use lib.ListN.{length}
 use borrow.Author.Tests.{eq-eqb, ne_eqb, le-leb, lt-leb}
-use Rattle.rules.specs.Values.{pick, first_fault}
+use Rattle.rules.specs.Values.{first_fault}
 use Rattle.rules.specs.Tapes.{slot_limit, clause_limit, place_of, read_tape}
+use Rattle.rules.proofs.Lines.{first_here, first_none}
 use Rattle.rules.proofs.Places.{tape_placed}
-use Rattle.tape_check.specs.Checks.{Answers}
-use Rattle.tape_check.specs.declared.Checked.{Checked}
-use Rattle.answers.specs.declared.Answer.{Answer}
+use Rattle.faults.specs.declared.Fault.{Fault}
+use Rattle.faults.specs.declared.Refusal.{Refusal}
+use Rattle.faults.specs.Numbers.{number_of}
+use Rattle.faults.proofs.NumberLaws.{some_number}
+use Rattle.tape_check.specs.Checks.{Accepts, Refuses}
+use Rattle.tape_check.specs.declared.Counts.{Counts}
+use Rattle.answers.specs.Says.{refused}
 use Rattle.answers.proofs.Ends.{answer, no_figure, uncounted, as_it_came, overwritten, done_by_lem}
 use Rattle.merge_rules.specs.Merging.{fits_merged, merged_bytes, merge_lines, merge_fault, fault_clause}
 use Rattle.merge_rules.proofs.MergedTapes.{merged_length}
@@ -42,35 +47,6 @@ module _ (k l a : ℕ) where
   pub length_right : a ≡ 8 + 10 * (k + l + 1) → 0 ≡ length_line k l a
   length_right h = rw (eq-eqb a (8 + 10 * (k + l + 1)) h)
 
--- The place of the tape that failed, by its number.
-pub first_place_lem : (x p q : ℕ) → (x ≡ 0 → ⊥) → p ≡ pick (eqb x 0) q p
-first_place_lem x p q h = rw (ne_eqb x 0 h)
-
-pub second_place : (x p q : ℕ) → x ≡ 0 → q ≡ pick (eqb x 0) q p
-second_place x p q h = rw (eq-eqb x 0 h)
-
-module _ (s v : List ℕ) (c d : Checked) (one : Answers c (read_tape s)) (two : Answers d (read_tape v)) where
-  -- The lines as the code has them are the definition's.
-  pub lines_found : (n : ℕ) {x y : ℕ} → x ≡ limit_line c.clauses d.clauses c.slots d.slots
-      → y ≡ length_line c.clauses d.clauses n
-      → first_fault (c.number ∷ (d.number ∷ (x ∷ (y ∷ [])))) ≡ merge_fault s v n
-  lines_found n e f =
-      rw (
-        e,
-        f,
-        one.number,
-        two.number,
-        one.clauses,
-        two.clauses,
-        one.slots,
-        two.slots,
-        merged_length (read_tape s).tape (read_tape v).tape,
-      )
-
-  pub place_found : {p : ℕ} → p ≡ pick (eqb c.number 0) d.place c.place → p ≡ fault_clause s v
-  unfolding fault_clause
-  place_found e = rw (e, one.number, one.place, two.place)
-
 -- A clause at fault comes with 5 to 9 alone.
 pub clause_placed : (s v : List ℕ) (n : ℕ) → fault_clause s v ≡ place_of (merge_fault s v n) (fault_clause s v)
 clause_placed s v n = go (read_tape s).number (read_tape v).number refl refl
@@ -93,31 +69,75 @@ clause_placed s v n = go (read_tape s).number (read_tape v).number refl refl
 
 -- Refused, and done.
 module _ (s v o : List ℕ) where
-  pub merge_refuses : {f p : ℕ} {r : Answer} → r ≡ answer f p 0 → f ≡ merge_fault s v (length o) → (f ≡ 0 → ⊥)
-      → p ≡ fault_clause s v → MergeSays s v o o r
-  merge_refuses e k h q =
+  refuses_by : (r : Refusal) → merge_fault s v (length o) ≡ number_of r.fault → fault_clause s v ≡ r.place
+      → MergeSays s v o o (refused r)
+  refuses_by r k q =
       record {
-        answer = uncounted e k (q ∙ clause_placed s v (length o));
-        out = as_it_came (merge_lines s v (length o)) (merged_bytes s v) o (λ z. h (k ∙ z));
+        answer = uncounted refl (sym k) (sym q ∙ clause_placed s v (length o));
+        out = as_it_came (merge_lines s v (length o)) (merged_bytes s v) o (λ z. some_number r.fault (sym k ∙ z));
       }
 
-  pub merge_does : {o' : List ℕ} {r : Answer} → r ≡ answer 0 0 0 → merge_fault s v (length o) ≡ 0
-      → o' ≡ merged_bytes s v → MergeSays s v o o' r
-  merge_does e z w =
-      record {
-        answer = done_by_lem (merge_lines s v (length o)) e z refl;
-        out = overwritten (merge_lines s v (length o)) o z w;
-      }
+  pub first_refuses : (r : Refusal) → Refuses r (read_tape s) → MergeSays s v o o (refused r)
+  first_refuses r e =
+      let k : (read_tape s).number ≡ 0 → ⊥ = λ z. some_number r.fault (e.number ∙ z) in
+      refuses_by r ((merge_order s v (length o)).first k ∙ sym e.number) (first_clause s v k ∙ sym e.place)
 
-  pub writable : (c d : Checked) → Answers c (read_tape s) → Answers d (read_tape v)
-      → merge_fault s v (length o) ≡ 0 → Writable s c v d o
-  writable c d one two z =
-      let k = merge_clear s v (length o) z in
-      record {
-        first = k.first;
-        second = k.second;
-        one = one;
-        two = two;
-        limit = k.limit;
-        size = k.room;
-      }
+  pub second_refuses : (read_tape s).number ≡ 0 → (r : Refusal) → Refuses r (read_tape v) → MergeSays s v o o (refused r)
+  second_refuses a r e =
+      let k : (read_tape v).number ≡ 0 → ⊥ = λ z. some_number r.fault (e.number ∙ z) in
+      refuses_by r ((merge_order s v (length o)).second a k ∙ sym e.number) (second_clause s v a ∙ sym e.place)
+
+  module _ (c d : Counts) (one : Accepts c (read_tape s)) (two : Accepts d (read_tape v)) where
+    -- The lines that are left, by the counts of two accepted tapes.
+    lines_found : first_fault
+        (limit_line c.clauses d.clauses c.slots d.slots ∷ (length_line c.clauses d.clauses (length o) ∷ []))
+        ≡ merge_fault s v (length o)
+    lines_found =
+        rw (
+          one.number,
+          two.number,
+          one.clauses,
+          two.clauses,
+          one.slots,
+          two.slots,
+          merged_length (read_tape s).tape (read_tape v).tape,
+        )
+
+    no_clause : fault_clause s v ≡ 0
+    no_clause = second_clause s v one.number ∙ two.place
+
+    pub limits_refuse : (f : Fault) → number_of f ≡ limit_line c.clauses d.clauses c.slots d.slots
+        → MergeSays s v o o (refused (record { fault = f; place = 0 }))
+    limits_refuse f e =
+        let k : limit_line c.clauses d.clauses c.slots d.slots ≡ 0 → ⊥ = λ z. some_number f (e ∙ z) in
+        refuses_by (record { fault = f; place = 0 }) (sym lines_found ∙ first_here _ _ k ∙ sym e) no_clause
+
+    module _ (l : 0 ≡ limit_line c.clauses d.clauses c.slots d.slots) where
+      pub length_refuses : (f : Fault) → number_of f ≡ length_line c.clauses d.clauses (length o)
+          → MergeSays s v o o (refused (record { fault = f; place = 0 }))
+      length_refuses f e =
+          refuses_by (record { fault = f; place = 0 })
+          (sym lines_found ∙ rw (sym l) (first_none (length_line c.clauses d.clauses (length o))) ∙ sym e) no_clause
+
+      module _ (m : 0 ≡ length_line c.clauses d.clauses (length o)) where
+        none : merge_fault s v (length o) ≡ 0
+        none = sym lines_found ∙ rw (sym l, sym m) refl
+
+        pub merge_does : {o' : List ℕ} → o' ≡ merged_bytes s v → MergeSays s v o o' (answer 0 0 0)
+        merge_does w =
+            record {
+              answer = done_by_lem (merge_lines s v (length o)) refl none refl;
+              out = overwritten (merge_lines s v (length o)) o none w;
+            }
+
+        pub writable : Writable s c v d o
+        writable =
+            let k = merge_clear s v (length o) none in
+            record {
+              first = k.first;
+              second = k.second;
+              one = one;
+              two = two;
+              limit = k.limit;
+              size = k.room;
+            }

@@ -17,7 +17,7 @@ use Rattle.rules.proofs.Accepted.{accepted_tape, operand_below}
 use Rattle.rules.proofs.Bytes.{length_read, length_bytes}
 use Rattle.tape.proofs.ByteClauses.{left_from, raws_first, raws_here, raws_over}
 use Rattle.tape.proofs.WrittenBytes.{runs, and_then}
-use Rattle.tape_check.specs.declared.Checked.{Checked}
+use Rattle.tape_check.specs.declared.Counts.{Counts}
 use Rattle.merge_rules.specs.Merging.{raised, minimum_of, merged_bytes}
 use Rattle.merge_rules.proofs.MergedValues.{last_in_lem}
 use Rattle.merge_rules.proofs.MergedTapes.{limits, merged_length}
@@ -152,7 +152,7 @@ stored_whole b o e =
     ∙ ap (λ (x : List ℕ). b ++ x) (drop_of_length-le o {i = 0 + length b} (omega arith))
     ∙ append-nil b
 
-module _ (s v : List ℕ) (c d : Checked) (o : List ℕ) (w : Writable s c v d o) where
+module _ (s v : List ℕ) (c d : Counts) (o : List ℕ) (w : Writable s c v d o) where
   pub first_counted : Counted s c.clauses
   first_counted = record { accepted = w.first; clauses = w.one.clauses }
 

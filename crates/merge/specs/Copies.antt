@@ -2,8 +2,8 @@
 use Rattle.std.specs.Prelude.{◌≡◌, true, List, ℕ, ◌+◌, ◌*◌, ◌≤◌, length}
 use Rattle.rules.specs.Tapes.{Raw, slot_limit, clause_limit, is_slot, clause_of, read_tape}
 use Rattle.tape.specs.Clauses.{InBytes}
-use Rattle.tape_check.specs.Checks.{Answers}
-use Rattle.tape_check.specs.declared.Checked.{Checked}
+use Rattle.tape_check.specs.Checks.{Accepts}
+use Rattle.tape_check.specs.declared.Counts.{Counts}
 use Rattle.merge_rules.specs.Merging.{raised, can_merge, merged_bytes}
 
 -- A clause as an accepted tape has it: each slot field, used or not, is a slot that a tape may have.
@@ -30,11 +30,11 @@ pub record Copyable (s : List ℕ) (k n p : ℕ) (o : List ℕ) : Type 0 where
   pub place : p ≤ 8 + 10 * clause_limit
   pub room : p + 10 * k ≤ length o
 
--- Two accepted tapes within the limits of one, with what their checks answered, and an output of the length of both.
-pub record Writable (s : List ℕ) (c : Checked) (v : List ℕ) (d : Checked) (o : List ℕ) : Type 0 where
+-- Two accepted tapes within the limits of one, with their counts, and an output of the length of both.
+pub record Writable (s : List ℕ) (c : Counts) (v : List ℕ) (d : Counts) (o : List ℕ) : Type 0 where
   pub first : (read_tape s).number ≡ 0
   pub second : (read_tape v).number ≡ 0
-  pub one : Answers c (read_tape s)
-  pub two : Answers d (read_tape v)
+  pub one : Accepts c (read_tape s)
+  pub two : Accepts d (read_tape v)
   pub limit : can_merge (read_tape s).tape (read_tape v).tape ≡ true
   pub size : length o ≡ length (merged_bytes s v)

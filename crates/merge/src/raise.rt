@@ -25,13 +25,11 @@ pub fn raised(f: Fields, by: u32) -> Fields
     requires by_le_slot_limit { by ≤ slot_limit }
     ensures { RaisedTo by (raw_of f) (raw_of result) }
 {
-    let opcode = f.opcode;
-    let constant = f.constant;
     Fields {
-        opcode: opcode,
+        opcode: f.opcode,
         out: raised_field(true, f.out, by),
-        left: raised_field(uses_left(opcode), f.left, by),
-        right: raised_field(uses_right(opcode), f.right, by),
-        constant: constant,
+        left: raised_field(uses_left(f.opcode), f.left, by),
+        right: raised_field(uses_right(f.opcode), f.right, by),
+        constant: f.constant,
     }
 }

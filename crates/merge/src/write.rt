@@ -9,7 +9,7 @@ use crate::raise::raised;
 use tape::bytes::{byte_at, fields_in};
 use tape::write::{put_clause, put_head};
 use tape::{CLAUSE_BYTES, Fields, HEAD_BYTES};
-use tape_check::Checked;
+use tape_check::Counts;
 
 // The clauses of an accepted tape, each used slot raised, stored from `at` on.
 fn copy_clauses(tape: &[u8], count: u32, by: u32, out: &mut [u8], at: usize)
@@ -17,11 +17,9 @@ fn copy_clauses(tape: &[u8], count: u32, by: u32, out: &mut [u8], at: usize)
     ensures { out.new
         ≡ sets out.old at (clause_bytes (map (raised_by by) (read_tape tape.now).tape.clauses)) }
 {
-    let mut i: u32 = 0;
-    while i < count {
+    for i in 0..count {
         let f = fields_in(tape, HEAD_BYTES + CLAUSE_BYTES * i as usize);
         put_clause(out, at + CLAUSE_BYTES * i as usize, raised(f, by));
-        i += 1;
     }
 }
 
@@ -51,7 +49,7 @@ fn put_minimum(out: &mut [u8], at: usize, first: u32, second: u32)
     )
 }
 
-pub fn write_merged(first: &[u8], one: Checked, second: &[u8], two: Checked, out: &mut [u8])
+pub fn write_merged(first: &[u8], one: Counts, second: &[u8], two: Counts, out: &mut [u8])
     requires { Writable first.now one second.now two out.old }
     ensures { out.new ≡ merged_bytes first.now second.now }
 {

@@ -1,28 +1,25 @@
 -- The sides of a file's picture, the lengths of a file, and what a call promises, case by case.
 use mathlib.Core.Path.{◌≡◌, refl, sym, ap, ◌∙◌}
-use mathlib.Core.Bool.{Bool, true, false, not, ◌&&◌}
+use mathlib.Core.Bool.{Bool, true, false, not}
 use mathlib.Core.List.{List, ◌∷◌}
 use Prim.Native.Nat.{ℕ, suc, ◌+◌, ◌*◌, ◌≤◌, ◌<◌}
 use native.Mathlib.Nat.{mul-le-mul}
 use native.Mathlib.Omega.{arith}
-use lib.Dec.{leb}
+use lib.Dec.{leb, eqb}
 use lib.ListN.{length, length-append}
-use borrow.Author.Tests.{leb-true, eq-eqb, ne_eqb, not-true, not-false}
+use borrow.Author.Tests.{leb-true, eqb-true, ne_eqb, not-true, not-false}
 use Rattle.rules.specs.Drawings.{size_ok}
 use Rattle.rules.specs.Pictures.{stride, sides_ok, decimal, head, clean_rows, bitmap_file, high_first, height_file}
 use Rattle.rules.specs.Pictures.{digits_from}
 use Rattle.rules.proofs.Order.{and_left, and_right}
 use Rattle.netpbm.specs.FileParts.{sizes}
-use Rattle.netpbm.specs.Files.{FileWith}
+use Rattle.netpbm.specs.Files.{sizes_fault, FileWith}
+use Rattle.promises.specs.Faults.{file_fault}
+use Rattle.faults.specs.declared.Fault.{Fault}
+use Rattle.faults.specs.Numbers.{number_of}
+use Rattle.faults.proofs.NumberLaws.{some_number}
 use Rattle.netpbm.proofs.Digits.{few_digits}
 use Rattle.netpbm.proofs.FileRows.{length_clean_rows, length_high_first}
-
--- Both sides, tested one after the other.
-pub first_side_wrong : (w h : ℕ) {r : Bool} → r ≡ size_ok w → not r ≡ true → false ≡ sides_ok w h
-first_side_wrong w h {r} e t = ap (λ b. b && size_ok h) (sym (not-true r t) ∙ e)
-
-pub first_side_right : (w h : ℕ) {r s : Bool} → r ≡ size_ok w → not r ≡ false → s ≡ size_ok h → s ≡ sides_ok w h
-first_side_right w h {r} {s} e t q = q ∙ ap (λ b. b && size_ok h) (sym (not-false r t) ∙ e)
 
 -- What the test of a call's result says of what the result is.
 pub told_false : {r b : Bool} → r ≡ b → not r ≡ true → b ≡ false
@@ -81,24 +78,39 @@ length_heights w h p =
     ∙ ap (λ n. length (head 53 w h) + suc (suc (suc (suc (suc (suc n)))))) (length_high_first p)
     ∙ omega arith
 
+-- The tests one after another: none refuses, and what does not matter to those that do.
+pub passes : (w h g n r s : ℕ) → 0 ≡ sizes_fault w h g n r s → (sides_ok w h ≡ true) × (g ≡ n) × (r ≡ s)
+passes w h g n r s e = by (sides_ok w h) (eqb g n) (eqb r s) refl refl refl
+  where
+    by : (t u v : Bool) → sides_ok w h ≡ t → eqb g n ≡ u → eqb r s ≡ v → (sides_ok w h ≡ true) × (g ≡ n) × (r ≡ s)
+    by true true true a b d = (a, eqb-true g n b, eqb-true r s d)
+    by true true false a b d = absurd (omega (arith, rw (a, b, d) at e))
+    by true false v a b d = absurd (omega (arith, rw (a, b) at e))
+    by false u v a b d = absurd (omega (arith, rw a at e))
+
+-- What the tests leave, where none refuses.
+pub record Room (w h g n r rest : ℕ) : Type 0 where
+  pub sides : Sides w h
+  pub picture : g ≡ n
+  pub output : r ≡ 5 + length (decimal w) + length (decimal h) + rest
+
+pub roomy : (k w h g n r rest : ℕ) → 0 ≡ sizes_fault w h g n r (length (head k w h) + rest) → Room w h g n r rest
+roomy k w h g n r rest e =
+    let t = passes w h g n r (length (head k w h) + rest) e in
+    record { sides = sides_right w h t.0; picture = t.1; output = omega (arith, t.2, length_head k w h) }
+
+pub as_long : (w h g n r s t : ℕ) → (g ≡ n → s ≡ t) → sizes_fault w h g n r s ≡ sizes_fault w h g n r t
+as_long w h g n r s t f = by (eqb g n) refl
+  where
+    by : (u : Bool) → eqb g n ≡ u → sizes_fault w h g n r s ≡ sizes_fault w h g n r t
+    by true e = ap (sizes_fault w h g n r) (f (eqb-true g n e))
+    by false e = rw e
+
 module _ {w h n : ℕ} {p b o : List ℕ} where
-  pub sides_refused : sides_ok w h ≡ false → FileWith w h n p b o o 10
-  sides_refused e = record { number = rw e refl; bytes = rw e refl }
+  pub file_refused : (f : Fault) → number_of f ≡ file_fault w h n p b o → FileWith w h n p b o o (number_of f)
+  file_refused f e =
+      let k = ne_eqb (file_fault w h n p b o) 0 (λ z. some_number f (e ∙ z)) in
+      record { number = e; bytes = rw k refl }
 
-  pub picture_refused : sides_ok w h ≡ true → (length p ≡ n → ⊥) → FileWith w h n p b o o 12
-  picture_refused e l =
-      let d = ne_eqb (length p) n l in
-      record { number = rw (e, d) refl; bytes = rw (e, d) refl }
-
-  pub output_refused : sides_ok w h ≡ true → length p ≡ n → (length o ≡ length b → ⊥) → FileWith w h n p b o o 14
-  output_refused e l k =
-      let s = eq-eqb (length p) n l in
-      let d = ne_eqb (length o) (length b) k in
-      record { number = rw (e, s, d) refl; bytes = rw (e, s, d) refl }
-
-  pub made : {o' : List ℕ} → sides_ok w h ≡ true → length p ≡ n → length o ≡ length b → o' ≡ b
-      → FileWith w h n p b o o' 0
-  made e l k q =
-      let s = eq-eqb (length p) n l in
-      let t = eq-eqb (length o) (length b) k in
-      record { number = rw (e, s, t) refl; bytes = rw (e, s, t) q }
+  pub file_made : {o' : List ℕ} → 0 ≡ file_fault w h n p b o → o' ≡ b → FileWith w h n p b o o' 0
+  file_made e q = record { number = e; bytes = rw (sym e) q }

@@ -12,6 +12,8 @@ use lib.ListN.{length, get_or, take, drop, length-append, length-take, length-dr
 use lib.Pow.{pow_pos, pow_mono, shr_mod}
 use lib.Seq.{drop-drop, take-suc, length-take-le}
 use borrow.Author.Tests.{le-leb, lt-leb}
+use Rattle.std.specs.Int.{w16, to_be_bytes}
+use Rattle.std.proofs.lemmas.Nat.{be_bytes_2}
 use Rattle.rules.specs.Values.{pick}
 use Rattle.rules.specs.Pictures.{stride, clean_row, clean_rows, high_first}
 use Rattle.netpbm.specs.Appending.{Appends}
@@ -140,6 +142,15 @@ row_more y w p d e =
     (ap (λ k. clean_rows y w p ++ clean_row w (take k (drop (y * stride w) p))) size ∙ sym (one_more_row y w p)
     ∙ ap (λ k. clean_rows k w p) (sym (add-one y)))
     (then d e)
+
+-- A height's two bytes.
+pub two_bytes : (h : ℕ) → h < 65536 → to_be_bytes w16 h ≡ h / 256 ∷ (h % 256 ∷ [])
+two_bytes h l = be_bytes_2 (h / 256 ∷ (h % 256 ∷ [])) h refl small (omega arith)
+  where
+    small : (i : ℕ) → get_or (h / 256 ∷ (h % 256 ∷ [])) i 0 < 256
+    small zero = omega arith
+    small (suc zero) = omega arith
+    small (suc (suc i)) = omega arith
 
 pub height_more : (hs : List ℕ) (i low : ℕ) {o o' o'' : List ℕ} {a b r : ℕ} → i < length hs → low ≡ get_or hs i 0 % 256
     → Appends o a (high_first (take i hs)) o' b → Appends o' b (get_or hs i 0 / 256 ∷ (low ∷ [])) o'' r

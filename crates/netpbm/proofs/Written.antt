@@ -4,8 +4,11 @@ use mathlib.Core.List.{List, [], ◌∷◌, ◌++◌, append_assoc, append-nil}
 use Prim.Native.Nat.{ℕ, ◌+◌, ◌<◌, ◌≤◌}
 use native.Mathlib.Numerals.{add-one}
 use native.Mathlib.Omega.{arith}
-use lib.ListN.{length, get_or, take, drop, set, length-set, length-append, take-append-drop}
-use lib.Seq.{take-suc, take-suc-set, take-length, take_all, drop-drop, drop-set-lt}
+use lib.ListN.{length, take, drop, set, length-set, length-append, take-append-drop}
+use lib.Seq.{take-suc-set, take-length, drop-drop, drop-set-lt}
+use borrow.Rule.Slice.PartMut.{put_mid}
+use Rattle.std.proofs.Common.{◌-◌, rules}
+use Rattle.std.proofs.lemmas.Slice.{overwrites}
 use Rattle.netpbm.specs.Appending.{Appends}
 
 pub nothing : (o : List ℕ) (at : ℕ) → Appends o at [] o at
@@ -34,13 +37,6 @@ then {o} {s} {o'} {t} {o''} {a} {b} {r} p q =
       rest = q.rest ∙ k;
     }
 
-pub two : (o : List ℕ) (at v w : ℕ) → at + 2 ≤ length o → Appends o at (v ∷ (w ∷ [])) (set (set o at v) (at + 1) w)
-    (at + 2)
-two o at v w h =
-    let place : (at + 1) + 1 ≡ at + 2 = omega arith in
-    rw place at
-    (then (one o at v (omega arith)) (one (set o at v) (at + 1) w (simp length-set (omega arith))))
-
 -- Written from the start to the end, the bytes are the list.
 pub whole : {o s o' : List ℕ} {r : ℕ} → Appends o 0 s o' r → length o ≡ length s → o' ≡ s
 whole {o} {s} {o'} {r} p e =
@@ -53,14 +49,16 @@ at_start {o} {s} {o'} {r} p =
     let n : r ≡ length s = omega arith in
     sym (take-append-drop r o') ∙ ap₂ (λ x y. x ++ y) p.front (p.rest ∙ ap (λ k. drop k o) n)
 
--- A list copied byte by byte.
-pub copy_more : (s : List ℕ) (i : ℕ) {o o' : List ℕ} {a b : ℕ} → Appends o a (take i s) o' b → i < length s
-    → b < length o' → Appends o a (take (i + 1) s) (set o' b (get_or s i 0)) (b + 1)
-copy_more s i {o} {o'} {a} {b} p h k = rw (add-one i, take-suc s i 0 h) (then p (one o' b (get_or s i 0) k))
-
-pub copy_done : (s : List ℕ) (i : ℕ) {o o' : List ℕ} {a b : ℕ} → Appends o a (take i s) o' b → length s ≤ i
-    → Appends o a s o' b
-copy_done s i p h = rw (take_all i s h) at p
+-- A list copied.
+pub copied : (o s : List ℕ) (at : ℕ) → at + length s ≤ length o
+    → Appends o at s (put_mid at (at + length s - at) o s) (at + length s)
+copied o s at h =
+    record {
+      next = refl;
+      front = search (rules, overwrites);
+      size = search (rules, overwrites);
+      rest = search (rules, overwrites);
+    }
 
 -- The same bytes by another name.
 pub renamed : {o s t o' : List ℕ} {a r : ℕ} → s ≡ t → Appends o a s o' r → Appends o a t o' r

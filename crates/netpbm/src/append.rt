@@ -7,12 +7,7 @@ pub fn put(out: &mut [u8], at: usize, s: &[u8]) -> usize
     requires { at + length s.now ≤ length out.old }
     ensures { Appends out.old at s.now out.new result }
 {
-    let mut next = at;
-    let mut i = 0;
-    while i < s.len() {
-        out[next] = s[i];
-        next += 1;
-        i += 1;
-    }
+    let next = at + s.len();
+    out[at..next].copy_from_slice(s);
     next
 }

@@ -1,21 +1,20 @@
 // The two Netpbm files: a flat picture as a bitmap, and heights.
-ghost use Rattle.std.specs.Prelude.{◌≡◌, ◌∷◌, [], ◌++◌, ℕ, ◌+◌, ◌-◌, ◌*◌, ◌^◌, ◌≤◌, ◌<◌, length};
+ghost use Rattle.std.specs.Prelude.{◌≡◌, true, ◌++◌, ℕ, ◌+◌, ◌-◌, ◌*◌, ◌^◌, ◌≤◌, ◌<◌, length};
 ghost use Rattle.rules.specs.Pictures.{stride, sides_ok, decimal, head, clean_row, clean_rows, high_first};
 ghost use Rattle.netpbm.specs.Appending.{Appends};
 ghost use Rattle.netpbm.specs.FileParts.{sizes, spare};
-ghost use Rattle.netpbm.specs.Files.{BitmapSays, HeightsSay};
+ghost use Rattle.netpbm.specs.Files.{sizes_fault, BitmapSays, HeightsSay};
+ghost use Rattle.faults.specs.Numbers.{fault_of};
 
 use crate::append::put;
 use crate::decimal::{number_length, put_number};
+use faults::Fault;
 use picture::grid::size_ok;
 
 fn sides_ok(width: u32, height: u32) -> bool
     ensures { result ≡ sides_ok width height }
 {
-    if !size_ok(width) {
-        return false;
-    }
-    size_ok(height)
+    size_ok(width) && size_ok(height)
 }
 
 // The length of a file whose rows, with all that stands between them and the line of sizes, have `rest` bytes.
@@ -86,22 +85,11 @@ fn put_rows(out: &mut [u8], at: usize, picture: &[u8], width: usize, height: usi
 {
     let row = (width + 7) / 8;
     let mut next = at;
-    let mut y = 0;
-    while y < height {
+    for y in 0..height {
         let start = y * row;
         next = put_row(out, next, &picture[start..start + row], width);
-        y += 1;
     }
     next
-}
-
-fn put_pair(out: &mut [u8], at: usize, first: u8, second: u8) -> usize
-    requires { at + 2 ≤ length out.old }
-    ensures { Appends out.old at (first ∷ (second ∷ [])) out.new result }
-{
-    out[at] = first;
-    out[at + 1] = second;
-    at + 2
 }
 
 // Each height with its high byte first.
@@ -110,47 +98,69 @@ fn put_heights(out: &mut [u8], at: usize, picture: &[u16]) -> usize
     ensures { Appends out.old at (high_first picture.now) out.new result }
 {
     let mut next = at;
-    let mut i = 0;
-    while i < picture.len() {
-        let high = (picture[i] >> 8) as u8;
-        let low = (picture[i] & 255) as u8;
-        next = put_pair(out, next, high, low);
-        i += 1;
+    for h in picture {
+        next = put(out, next, &h.to_be_bytes());
     }
     next
 }
 
-pub fn write_bitmap(width: u32, height: u32, picture: &[u8], out: &mut [u8]) -> u8
-    ensures { BitmapSays width height picture.now out.old out.new result }
+// The refusals of both files, in their order: the sides, the picture's length and the output's. Behind its line of sizes,
+// with all that stands between, the file has `rest` bytes.
+fn check(
+    width: u32,
+    height: u32,
+    given: usize,
+    wanted: usize,
+    room: usize,
+    rest: usize,
+) -> Result<(), Fault>
+    requires { sides_ok width height ≡ true → given ≡ wanted → rest < 1000000 }
+    ensures { (k : ℕ) → fault_of result
+        ≡ sizes_fault width height given wanted room (length (head k width height) + rest) }
 {
     if !sides_ok(width, height) {
-        return 10;
+        return Err(Fault::WrongSize);
     }
-    if picture.len() != height as usize * ((width as usize + 7) / 8) {
-        return 12;
+    if given != wanted {
+        return Err(Fault::PictureLength);
     }
-    if out.len() != file_length(width, height, picture.len()) {
-        return 14;
+    if room != file_length(width, height, rest) {
+        return Err(Fault::OutputLength);
     }
-    let rows = put_head(out, b"P4\n", width, height);
-    put_rows(out, rows, picture, width as usize, height as usize);
-    0
+    Ok(())
 }
 
-pub fn write_heights(width: u32, height: u32, picture: &[u16], out: &mut [u8]) -> u8
-    ensures { HeightsSay width height picture.now out.old out.new result }
+pub fn write_bitmap(width: u32, height: u32, picture: &[u8], out: &mut [u8]) -> Result<(), Fault>
+    ensures { BitmapSays width height picture.now out.old out.new (fault_of result) }
 {
-    if !sides_ok(width, height) {
-        return 10;
-    }
-    if picture.len() != width as usize * height as usize {
-        return 12;
-    }
-    if out.len() != file_length(width, height, 6 + 2 * picture.len()) {
-        return 14;
-    }
+    let (w, h) = (width as usize, height as usize);
+    check(
+        width,
+        height,
+        picture.len(),
+        h * ((w + 7) / 8),
+        out.len(),
+        picture.len(),
+    )?;
+    let rows = put_head(out, b"P4\n", width, height);
+    put_rows(out, rows, picture, w, h);
+    Ok(())
+}
+
+pub fn write_heights(width: u32, height: u32, picture: &[u16], out: &mut [u8]) -> Result<(), Fault>
+    ensures { HeightsSay width height picture.now out.old out.new (fault_of result) }
+{
+    let (w, h) = (width as usize, height as usize);
+    check(
+        width,
+        height,
+        picture.len(),
+        w * h,
+        out.len(),
+        6 + 2 * picture.len(),
+    )?;
     let top = put_head(out, b"P5\n", width, height);
     let rows = put(out, top, b"65535\n");
     put_heights(out, rows, picture);
-    0
+    Ok(())
 }

@@ -9,31 +9,35 @@ ghost use Rattle.std.specs.Prelude.{true, ◌≡◌, length};
 ghost use Rattle.rules.specs.Tapes.{clause_limit};
 ghost use Rattle.order_rules.specs.Orders.{order_lines};
 ghost use Rattle.picture.specs.Shapes.{grid_in};
-ghost use Rattle.answers.specs.Says.{checked_by};
+ghost use Rattle.answers.specs.Says.{Checked, answer_of};
 ghost use Rattle.promises.specs.Says.{OrderSays};
 ghost use Rattle.order_drawing.specs.InOrder.{DrawsInOrder, OrderOf};
 
-use answers::lines::{check_full, work_fault};
-use answers::{Answer, done, first_fault, refused};
+use answers::Answer;
+use answers::lines::{check_full, check_work};
 use code::unpack::unpack_words;
-use list::{list_fault, tile_count};
+use faults::Refusal;
+use list::{check_list, tile_count};
 use picture::bits::clear;
 use picture::grid::Grid;
 use tape::CLAUSE_LIMIT;
 use tiles::tile_in_order;
 
 // Lines 1 to 13. The list is tested only on a grid that holds: the number of tiles of a refused one can leave 64 bits.
-fn check_order(tape: &[u8], grid: Grid, order: &[u16], length: usize, work: usize) -> Answer
-    ensures { result ≡ checked_by (order_lines tape.now (grid_in grid true) order.now length work)
-        tape.now }
+fn check_order(
+    tape: &[u8],
+    grid: Grid,
+    order: &[u16],
+    length: usize,
+    work: usize,
+) -> Result<(), Refusal>
+    ensures { Checked (order_lines tape.now (grid_in grid true) order.now length work) tape.now
+        result }
 {
-    let checked = check_full(true, tape, grid, length);
-    if checked.number != 0 {
-        return checked;
-    }
-    let list_line = list_fault(tile_count(grid), order);
-    let work_line = work_fault(work);
-    refused(first_fault(&[list_line, work_line]), checked.place)
+    check_full(true, tape, grid, length)?;
+    check_list(tile_count(grid), order)?;
+    check_work(work)?;
+    Ok(())
 }
 
 // The walk of the tape's words, in buffers that are lent: for the words, and for those of each level.
@@ -89,6 +93,22 @@ fn tile(tape: &[u8], grid: Grid, order: &[u16], picture: &mut [u16], work: &mut 
     )
 }
 
+fn tile_checked(
+    tape: &[u8],
+    grid: Grid,
+    order: &[u16],
+    picture: &mut [u16],
+    work: &mut [u8],
+) -> Result<u64, Refusal>
+    ensures { OrderSays tape.now grid order.now picture.old
+        picture.new work.old work.new (answer_of result) }
+{
+    check_order(tape, grid, order, picture.len(), work.len())?;
+    let count = tile(tape, grid, order, picture, work);
+    clear(work);
+    Ok(count)
+}
+
 pub fn tile_solid_in_order(
     tape: &[u8],
     grid: Grid,
@@ -99,11 +119,5 @@ pub fn tile_solid_in_order(
     ensures { OrderSays tape.now grid order.now picture.old
         picture.new work.old work.new result }
 {
-    let checked = check_order(tape, grid, order, picture.len(), work.len());
-    if checked.number != 0 {
-        return checked;
-    }
-    let count = tile(tape, grid, order, picture, work);
-    clear(work);
-    done(count)
+    Answer::of(tile_checked(tape, grid, order, picture, work))
 }

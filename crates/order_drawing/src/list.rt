@@ -2,10 +2,12 @@
 ghost use Rattle.std.specs.Prelude.{true, not, ◌≡◌, ◌≤◌};
 ghost use Rattle.rules.specs.Values.{when};
 ghost use Rattle.rules.specs.Drawings.{grid_fault};
+ghost use Rattle.faults.specs.Numbers.{fault_of};
 ghost use Rattle.order_rules.specs.Orders.{is_order};
 ghost use Rattle.picture.specs.Shapes.{grid_in};
 ghost use Rattle.order_drawing.specs.InOrder.{TileCount};
 
+use faults::Fault;
 use picture::grid::Grid;
 use walk::cell::cell_at;
 use walk::children::child_count;
@@ -21,26 +23,24 @@ pub fn tile_count(grid: Grid) -> u32
 }
 
 // A flag for each number: 1 once it is seen.
-pub fn list_fault(count: u32, order: &[u16]) -> u8
+pub fn check_list(count: u32, order: &[u16]) -> Result<(), Fault>
     requires { count ≤ 512 }
-    ensures { result ≡ when (not (is_order count order.now)) 12 }
+    ensures { fault_of result ≡ when (not (is_order count order.now)) 12 }
 {
     let end = count as usize;
     if order.len() != end {
-        return 12;
+        return Err(Fault::PictureLength);
     }
     let mut seen = [0u8; TILE_LIMIT];
-    let mut i = 0;
-    while i < order.len() {
-        let m = order[i] as usize;
+    for number in order {
+        let m = *number as usize;
         if end <= m {
-            return 12;
+            return Err(Fault::PictureLength);
         }
         if seen[m] != 0 {
-            return 12;
+            return Err(Fault::PictureLength);
         }
         seen[m] = 1;
-        i += 1;
     }
-    0
+    Ok(())
 }

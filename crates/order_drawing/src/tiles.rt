@@ -29,9 +29,8 @@ pub fn tile_in_order(
     let mut choices = [[0u8; 8]; CLAUSE_LIMIT];
     let mut below = [[0u8; 8]; CLAUSE_LIMIT];
     let mut count: u64 = 0;
-    let mut i = 0;
-    while i < order.len() {
-        let cell = child(all, 64, order[i] as u32);
+    for number in order {
+        let cell = child(all, 64, *number as u32);
         count += visit_tile(
             whole,
             grid,
@@ -44,7 +43,6 @@ pub fn tile_in_order(
             &mut choices,
             &mut below,
         );
-        i += 1;
     }
     count
 }

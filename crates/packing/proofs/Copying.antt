@@ -12,6 +12,12 @@ use Rattle.rules.proofs.Reading.{counts_hold, list_accepted, list_tape, tape_acc
 use Rattle.rules.proofs.Lines.{first_here}
 use Rattle.rules.proofs.Places.{Placed}
 use Rattle.promises.specs.Faults.{copy_fault}
+use Rattle.std.specs.Prelude.{Ok, Err}
+use Rattle.faults.specs.declared.Fault.TheVariants.{OutputLength}
+use Rattle.faults.specs.declared.Refusal.{Refusal}
+use Rattle.faults.specs.Numbers.{number_of}
+use Rattle.faults.proofs.NumberLaws.{some_number}
+use Rattle.tape_check.specs.Checks.{Refuses}
 use Rattle.packing.specs.Packing.{Copies}
 
 -- The slot count of what was read.
@@ -23,26 +29,28 @@ tape_slots s e = rw (tape_tape s e) (counts_hold (get_or s 3 0) (word 4 s) (tape
 
 -- The answer in its three cases.
 module _ {A : Type 0} (g : Got) (b o : List A) where
-  pub read_refuses : Placed g → (x p : ℕ) → (x ≡ 0 → ⊥) → x ≡ g.number → p ≡ g.place
-      → Copies g b o o (record { number = x; place = p; slots = 0 })
-  read_refuses l x p h e q =
+  pub read_refuses : Placed g → (r : Refusal) → Refuses r g → Copies g b o o (Err r)
+  read_refuses l r v =
+      let x = number_of r.fault in
+      let h = some_number r.fault in
+      let e = v.number in
       let f : copy_fault g b o ≡ x = first_here g.number _ (λ z. h (e ∙ z)) ∙ sym e in
       let n : eqb x 0 ≡ false = ne_eqb x 0 h in
       record {
         number = sym f;
-        place = q ∙ l.placed ∙ ap (λ k. place_of k g.place) (sym e ∙ sym f);
+        place = v.place ∙ l.placed ∙ ap (λ k. place_of k g.place) (sym e ∙ sym f);
         slots = rw (f, n);
         out = rw (f, n);
       }
 
   module _ (e : g.number ≡ 0) where
-    pub length_refuses : (length o ≡ length b → ⊥) → Copies g b o o (record { number = 14; place = 0; slots = 0 })
+    pub length_refuses : (length o ≡ length b → ⊥) → Copies g b o o (Err (record { fault = OutputLength; place = 0 }))
     length_refuses h =
         let f : copy_fault g b o ≡ 14 = rw (e, ne_eqb (length o) (length b) h) in
         record { number = sym f; place = rw f; slots = rw f; out = rw f }
 
     pub copied : length o ≡ length b → (o' : List A) → o' ≡ b → (n : ℕ) → n ≡ g.tape.slots
-        → Copies g b o o' (record { number = 0; place = 0; slots = n })
+        → Copies g b o o' (Ok n)
     copied h o' w n s =
         let f : copy_fault g b o ≡ 0 = rw (e, eq-eqb (length o) (length b) h) in
         record { number = sym f; place = rw f; slots = rw f s; out = rw f w }

@@ -5,7 +5,6 @@ use mathlib.Core.List.{List}
 use Prim.Native.Nat.{ℕ, ◌+◌, ◌-◌, ◌*◌, ◌/◌, ◌%◌, ◌<◌, ◌≤◌}
 use native.Mathlib.Nat.{mul-le-mul_right}
 use native.Mathlib.Omega.{arith}
-use lib.Bits.{bit_or}
 use lib.Dec.{ltb}
 use lib.ListN.{length, get_or, set}
 use lib.Seq.{get_or-set_same, get_or-set_other}
@@ -14,7 +13,7 @@ use Rattle.rules.specs.Pictures.{stride}
 use Rattle.picture.specs.Bits.{Within}
 use Rattle.picture.specs.Parts.{ByteIn}
 use Rattle.picture.proofs.PartLaws.{kept_none, kept_more, row_apart, apart_none, rows_apart}
-use Rattle.patches.specs.Patches.{joined, BytesSet, PartSet}
+use Rattle.patches.specs.Patches.{BytesSet, PartSet}
 
 -- Bytes in turn.
 pub set_none : (i : ℕ) (f : ℕ → ℕ) (b : List ℕ) → BytesSet i i f b b
@@ -41,10 +40,13 @@ set_more a i v f b c l m e k =
 pub set_next : {a i : ℕ} {f : ℕ → ℕ} {b c : List ℕ} → BytesSet a i f b c → get_or c i 0 ≡ get_or b i 0
 set_next {i = i} k = k.outside.bytes i (λ p q. omega arith)
 
-pub set_joined : (a i : ℕ) (b o c : List ℕ) → a ≤ i → i < length c → BytesSet a i (joined b o) b c
-    → BytesSet a (i + 1) (joined b o) b (set c i (bit_or (get_or c i 0) (get_or o i 0)))
-set_joined a i b o c l m k =
-    set_more a i (bit_or (get_or c i 0) (get_or o i 0)) (joined b o) b c l m (ap (λ v. bit_or v (get_or o i 0)) (set_next k)) k
+-- What becomes of a byte by its value, when it comes, and its place.
+abbrev pub by_value : (ℕ → ℕ → ℕ) → List ℕ → ℕ → ℕ
+by_value f b i = f (get_or b i 0) i
+
+pub set_by_value : (a i v : ℕ) (f : ℕ → ℕ → ℕ) (b c : List ℕ) → a ≤ i → i < length c → v ≡ by_value f c i
+    → BytesSet a i (by_value f b) b c → BytesSet a (i + 1) (by_value f b) b (set c i v)
+set_by_value a i v f b c l m e k = set_more a i v (by_value f b) b c l m (e ∙ ap (λ x. f x i) (set_next k)) k
 
 -- A part of no rows, and one row more.
 pub part_none : (w x xend y : ℕ) (f : ℕ → ℕ) (b : List ℕ) → PartSet w x xend y y f b b
@@ -96,13 +98,13 @@ module _ (w x xend y j : ℕ) (f : ℕ → ℕ) {b c : List ℕ} (k : PartSet w 
             let n = ltb-false i j h in
             this_row i p (omega (arith, o.to_row)) o
 
-pub part_joined : (w x xend y j : ℕ) (b o c : List ℕ) {d : List ℕ} → PartSet w x xend y j (joined b o) b c → x % 8 ≡ 0
-    → xend ≤ w → y ≤ j
-    → BytesSet (j * stride w + x / 8) (j * stride w + (xend + 7) / 8) (joined c o) c d
-    → PartSet w x xend y (j + 1) (joined b o) b d
-part_joined w x xend y j b o c k start columns from s =
-    part_row w x xend y j (joined b o) k start columns from (joined c o)
-    (λ i l m. ap (λ v. bit_or v (get_or o i 0)) (row_next w x xend y j (joined b o) k columns i l m)) s
+pub part_by_value : (w x xend y j : ℕ) (f : ℕ → ℕ → ℕ) (b c : List ℕ) {d : List ℕ} → x % 8 ≡ 0 → xend ≤ w → y ≤ j
+    → PartSet w x xend y j (by_value f b) b c
+    → BytesSet (j * stride w + x / 8) (j * stride w + (xend + 7) / 8) (by_value f c) c d
+    → PartSet w x xend y (j + 1) (by_value f b) b d
+part_by_value w x xend y j f b c start columns from k s =
+    part_row w x xend y j (by_value f b) k start columns from (by_value f c)
+    (λ i l m. ap (λ v. f v i) (row_next w x xend y j (by_value f b) k columns i l m)) s
 
 -- A row's bytes are in the picture.
 pub row_ends : (w x xend yend j : ℕ) (b : List ℕ) → Within w x xend yend b → j < yend

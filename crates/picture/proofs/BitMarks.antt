@@ -4,12 +4,18 @@ use mathlib.Core.Path.{◌≡◌, refl, sym, ap, ◌∙◌, subst}
 use mathlib.Core.Bool.{Bool, true, false}
 use mathlib.Core.List.{List, [], ◌∷◌, ◌++◌}
 use Prim.Native.Nat.{ℕ, zero, suc, ◌+◌, ◌-◌, ◌*◌, ◌/◌, ◌%◌, ◌<◌, ◌≤◌, max}
-use native.Mathlib.Nat.{add-sub_cancel_left, add_assoc, mul-le-mul_right, sub_self}
+use native.Mathlib.Nat.{add-sub_cancel_left, add_assoc, mul-le-mul_right}
+use native.Mathlib.Numerals.{add-one}
 use native.Mathlib.Omega.{arith}
 use lib.Bits.{bit_or}
 use lib.Dec.{eqb, ltb}
 use lib.ListN.{length, get_or, set, replicate, length-set, length-replicate, get_or-replicate, replicate-append-replicate}
-use lib.ListN.{get_or-append, get_or-eq_default}
+use lib.ListN.{get_or-append, get_or-eq_default, take, drop, take-append-drop, length-drop}
+use lib.Seq.{length-take-le}
+use borrow.Author.Fill.{fill_more}
+use borrow.Rule.Slice.PartMut.{put_mid}
+use Rattle.std.proofs.Common.{rules}
+use Rattle.std.proofs.lemmas.List.{places, set-append_right}
 use lib.Seq.{get_or-set_same, get_or-set_other, get_or-append-add}
 use borrow.Author.Tests.{ltb-true, ltb-false, lt-ltb, le-ltb, eqb-true, eqb-false}
 use Rattle.rules.specs.Values.{pick, when}
@@ -185,17 +191,31 @@ filled_more p m q b c d k n =
     rw (← replicate-append-replicate m q true)
     (marked_more p (replicate m true) (replicate q true) b c d k (rw l at n))
 
-pub fill_start : (at : ℕ) (b : List ℕ) → Marked (8 * at) (replicate (8 * (at - at)) true) b b
-fill_start at b = rw sub_self (marked_none (8 * at) b)
+fill_byte : (at n : ℕ) (b c : List ℕ) → at + n < length c → Marked (8 * at) (replicate (8 * n) true) b c
+    → Marked (8 * at) (replicate (8 * (n + 1)) true) b (set c (at + n) 255)
+fill_byte at n b c o k =
+    let p : 8 * (at + n) ≡ 8 * at + 8 * n = omega arith in
+    let q : 8 * (n + 1) ≡ 8 * n + 8 = omega arith in
+    rw q (filled_more (8 * at) (8 * n) 8 b c (set c (at + n) 255) k (rw p at (marked_whole c (at + n) o)))
 
-pub fill_byte : (at i : ℕ) (b c : List ℕ) → at ≤ i → i < length c → Marked (8 * at) (replicate (8 * (i - at)) true) b c
-    → Marked (8 * at) (replicate (8 * (i + 1 - at)) true) b (set c i 255)
-fill_byte at i b c l o k =
-    let p : 8 * i ≡ 8 * at + 8 * (i - at) = omega arith in
-    let q : 8 * (i + 1 - at) ≡ 8 * (i - at) + 8 = omega arith in
-    rw q
-    (filled_more (8 * at) (8 * (i - at)) 8 b c (set c i 255) k
-    (rw p at (marked_whole c i o)))
+-- Whole bytes, lent as a part.
+pub fill_bytes : (at n : ℕ) (b : List ℕ) → at + n ≤ length b
+    → Marked (8 * at) (replicate (8 * n) true) b (put_mid at n b (replicate n 255))
+fill_bytes at zero b l = subst (λ c. Marked (8 * at) [] b c) (sym (take-append-drop at b)) (marked_none (8 * at) b)
+fill_bytes at (suc n) b l =
+    let f = put_mid at n b (replicate n 255) in
+    let long : length f ≡ length b = search (rules, places) in
+    subst (λ i. Marked (8 * at) (replicate (8 * i) true) b (put_mid at i b (replicate i 255))) (add-one n)
+    (rw more (fill_byte at n b f (omega arith) (fill_bytes at n b (omega arith))))
+  where
+    more : put_mid at (n + 1) b (replicate (n + 1) 255) ≡ set (put_mid at n b (replicate n 255)) (at + n) 255
+    more =
+        let rest = drop at b in
+        let room : n < length rest = omega (arith, length-drop {A = ℕ}) in
+        let long : length (take at b) ≡ at = length-take-le at b (omega arith) in
+        sym (set-append_right (take at b) (replicate n 255 ++ drop n rest) at (at + n) 255 long (omega arith)
+        ∙ ap (λ i. take at b ++ set (replicate n 255 ++ drop n rest) i 255) (add-sub_cancel_left at n)
+        ∙ ap (λ t. take at b ++ t) (fill_more n 255 rest room))
 
 pub fill_last : (at count i v : ℕ) (b c : List ℕ) → 1 ≤ count → i ≡ at + (count - 1) / 8 → i < length c
     → ((k : ℕ) → k < 8 → bit (7 - k) v ≡ when (ltb k ((count - 1) % 8 + 1)) 1)

@@ -1,112 +1,46 @@
--- The loops over heights: one turn of each, as the definitions of raising and of the test unfold.
-use mathlib.Core.Path.{◌≡◌, ap, sym, ◌∙◌}
-use mathlib.Core.Bool.{Bool, true, false, ◌&&◌}
-use mathlib.Core.List.{List, ◌++◌, append-nil}
-use Prim.Native.Nat.{ℕ, suc, ◌+◌, ◌-◌, ◌*◌, ◌≤◌, ◌<◌}
-use native.Mathlib.Nat.{mul_comm, add-mul, mul-le-mul_right}
-use native.Mathlib.Numerals.{add-one}
-use native.Mathlib.Omega.{arith}
+-- The loops over heights: a turn of each, as the definitions of raising and of the test unfold.
+use Rattle.std.proofs.Common.{◌≡◌, ap, sym, ◌∙◌, refl, Bool, true, false, ◌&&◌, List, ℕ, zero, suc, ◌+◌, ◌-◌, ◌*◌, ◌≤◌, ◌<◌, max, add-one, arith, length, get_or, set, take, subst, drop, length-take, length-drop, zero-add, rules}
+use Rattle.std.proofs.lemmas.List.{places}
+use Rattle.std.proofs.lemmas.List.FromFn.{length-range_with_len, get_or-range_with_len}
+use Rattle.std.specs.List.{range_with_len, AllWithin, HoldsAt}
+use Rattle.std.specs.Bool.{MatchBool}
 use lib.Dec.{ltb, leb}
-use lib.ListN.{length, get_or, set, drop, replicate, length-set}
-use lib.Seq.{drop-length}
-use borrow.Author.Fill.{fill_more}
-use borrow.Author.Tests.{le-leb, lt-leb}
+use native.Mathlib.Nat.{mul_comm, add-mul, mul-le-mul_right, sub-zero, add-zero}
+use borrow.Author.Tests.{le-leb, lt-leb, ltb-true, ltb-false}
+use borrow.Rule.Slice.PartMut.{put_mid, mid_of, put_same}
 use Rattle.rules.specs.Values.{pick}
 use Rattle.rules.specs.Drawings.{size_limit, raise_row, raise_rows, row_high, rows_high}
 use Rattle.picture.specs.Heights.{RowsFit}
+use Rattle.picture.proofs.LentParts.{set_part, get_part}
 
--- Clearing: the heights before i are 0, the others as they came.
-pub record Cleared (h₀ : List ℕ) (i : ℕ) (h : List ℕ) : Type 0 where
-  pub before : i ≤ length h
-  pub kept : length h ≡ length h₀
-  pub same : h ≡ replicate i 0 ++ drop i h₀
+greater : (a z : ℕ) → max a z ≡ pick (ltb a z) z a
+greater a z = by (ltb a z) refl
+  where
+    by : (t : Bool) → ltb a z ≡ t → max a z ≡ pick (ltb a z) z a
+    by true e = rw e (omega (arith, ltb-true a z e))
+    by false e = rw e (omega (arith, ltb-false a z e))
 
-pub clear_next : {h₀ : List ℕ} {i : ℕ} {h : List ℕ} → i < length h → Cleared h₀ i h → Cleared h₀ (i + 1) (set h i 0)
-clear_next {h₀} {i} {h} l a =
-    record {
-      before = omega (arith, length-set h i 0);
-      kept = length-set h i 0 ∙ a.kept;
-      same = ap (λ x. set x i 0) a.same ∙ fill_more i 0 h₀ (omega arith);
-    }
+-- Raising a row, lent as a part of the heights: of n heights from place a on, i are raised.
+abbrev pub Raises : (n a z i k : ℕ) (h s : List ℕ) → Type 0
+Raises n a z i k h s = raise_row (n - i) (a + i) z (put_mid a k h s) ≡ raise_row n a z h
 
-pub clear_ends : {h₀ : List ℕ} {i : ℕ} {h : List ℕ} → length h ≤ i → Cleared h₀ i h → h ≡ replicate (length h₀) 0
-clear_ends {h₀} {i} {h} l a =
-    let e : i ≡ length h₀ = omega arith in
-    a.same ∙ rw (e, drop-length h₀, append-nil)
+pub raise_starts : (n a z k : ℕ) (h : List ℕ) → Raises n a z 0 k h (mid_of a k h)
+raise_starts n a z k h = rw (put_same a k h, add-zero, sub-zero)
 
--- A loop along a row is at i and ends at end, within size heights. What the definition makes of the rest from here,
--- `rest`, is what it makes of the whole from the start.
-pub record Along {A : Type 0} (size end i : ℕ) (rest whole : A) : Type 0 where
-  pub before : i ≤ end
-  pub fits : end ≤ size
-  pub same : rest ≡ whole
+pub raise_next : (n a z i k : ℕ) (h s : List ℕ) (v : ℕ) → i < n → a ≤ length h → i < length s → v ≡ max (get_or s i 0) z
+    → Raises n a z i k h s → Raises n a z (i + 1) k h (set s i v)
+unfolding raise_row
+raise_next n a z i k h s v l room m f e =
+    let p : n - i ≡ suc (n - (i + 1)) = omega arith in
+    let q : a + (i + 1) ≡ suc (a + i) = omega arith in
+    rw (f, greater (get_or s i 0) z, ← get_part a k h s i room m, set_part a k h s i room m, q)
+    (sym (ap (λ x. raise_row x (a + i) z (put_mid a k h s)) p) ∙ e)
 
--- At the start all of a row is left, at the end none, and a turn takes one.
-pub starts : {A : Type 0} (f : ℕ → A) (from count size : ℕ) → from + count ≤ size
-    → Along size (from + count) from (f (from + count - from)) (f count)
-starts f from count size h =
-    let e : from + count - from ≡ count = omega arith in
-    record { before = omega arith; fits = h; same = ap f e }
-
-none_left : (end i : ℕ) → end ≤ i → 0 ≡ end - i
-none_left end i h = omega arith
-
-one_less : (end i : ℕ) → i < end → end - i ≡ suc (end - suc i)
-one_less end i h = omega arith
-
--- Raising a row: its end, and a turn, which stores a height.
-module _ {end i : ℕ} {whole : List ℕ} (z : ℕ) (h : List ℕ)
-    (a : Along (length h) end i (raise_row (end - i) i z h) whole) where
-  pub raise_ends : end ≤ i → h ≡ whole
-  unfolding raise_row
-  raise_ends l = ap (λ n. raise_row n i z h) (none_left end i l) ∙ a.same
-
-  raise_here : i < end → raise_row (end - suc i) (suc i) z (set h i (pick (ltb (get_or h i 0) z) z (get_or h i 0))) ≡ whole
-  unfolding raise_row
-  raise_here l = sym (ap (λ n. raise_row n i z h) (one_less end i l)) ∙ a.same
-
-  pub raise_next : (v : ℕ) → i < end → v ≡ pick (ltb (get_or h i 0) z) z (get_or h i 0)
-      → Along (length (set h i v)) end (i + 1) (raise_row (end - (i + 1)) (i + 1) z (set h i v)) whole
-  raise_next v l e =
-      record { before = omega arith; fits = omega (arith, length-set h i v); same = rw (add-one i, e) (raise_here l) }
-
--- The test of a row: its end, a turn, which passes a height, and the end at a height that is too low.
-module _ {end i : ℕ} {whole : Bool} (z : ℕ) (h : List ℕ)
-    (a : Along (length h) end i (row_high (end - i) i z h) whole) where
-  pub high_ends : end ≤ i → true ≡ whole
-  unfolding row_high
-  high_ends l = ap (λ n. row_high n i z h) (none_left end i l) ∙ a.same
-
-  high_here : i < end → (leb z (get_or h i 0) && row_high (end - suc i) (suc i) z h) ≡ whole
-  unfolding row_high
-  high_here l = sym (ap (λ n. row_high n i z h) (one_less end i l)) ∙ a.same
-
-  pub high_next : i < end → z ≤ get_or h i 0 → Along (length h) end (i + 1) (row_high (end - (i + 1)) (i + 1) z h) whole
-  high_next l k =
-      let e = rw (le-leb z (get_or h i 0) k) at (high_here l) in
-      record { before = omega arith; fits = a.fits; same = rw (add-one i) e }
-
-  pub low_ends : i < end → get_or h i 0 < z → false ≡ whole
-  low_ends l k = rw (lt-leb z (get_or h i 0) k) at (high_here l)
-
--- A loop over rows, of which `left` are left, the next from `from` on.
-pub record Down {A : Type 0} (left width from count size : ℕ) (rest whole : A) : Type 0 where
-  pub fit : RowsFit left width from count size
-  pub same : rest ≡ whole
-
-first_row : (left : ℕ) → 0 < left → left ≡ suc (left - 1)
-first_row left h = omega arith
-
-rows_left_lem : (left width : ℕ) → 0 < left → left * width ≡ suc (left - 1) * width
-rows_left_lem left width l = ap (λ n. n * width) (first_row left l)
-
--- The next row lies within, and what is left behind it begins at the row after.
-module _ {left width from count size : ℕ} (h : RowsFit left width from count size) (l : 0 < left) where
-  pub row_fits : from + count ≤ size
-  row_fits = omega (arith, rows_left_lem left width l)
-
-  rest_fit : RowsFit (left - 1) width (from + width) count size
-  rest_fit = record { narrow = h.narrow; last = omega (arith, rows_left_lem left width l) }
+pub raise_ends : (n a z i k : ℕ) (h s : List ℕ) → n ≤ i → Raises n a z i k h s → put_mid a k h s ≡ raise_row n a z h
+unfolding raise_row
+raise_ends n a z i k h s l e =
+    let p : 0 ≡ n - i = omega arith in
+    ap (λ x. raise_row x (a + i) z (put_mid a k h s)) p ∙ e
 
 -- The rows of a region of a picture w wide and h high: columns i to x, rows j to y.
 pub region_fits : (w h i j x y : ℕ) → w ≤ size_limit → i ≤ x → x ≤ w → j ≤ y → y ≤ h
@@ -116,40 +50,96 @@ region_fits w h i j x y n ix xw jy yh =
     let rows : (y - j) * w + j * w ≡ y * w = sym (add-mul (y - j) j w) ∙ ap (λ n. n * w) e in
     record { narrow = n; last = omega (arith, mul-le-mul_right w yh, mul_comm w h) }
 
--- Raising rows: the end, and a turn, which raises one.
-module _ {left width from count : ℕ} {whole : List ℕ} (z : ℕ) (h : List ℕ)
-    (d : Down left width from count (length h) (raise_rows left width from count z h) whole) where
-  pub raise_rows_end : left ≤ 0 → h ≡ whole
-  unfolding raise_rows
-  raise_rows_end l =
-      let e : 0 ≡ left = omega arith in
-      ap (λ n. raise_rows n width from count z h) e ∙ d.same
+-- Raising rows, of which j are raised.
+abbrev pub RaisesRows : (n w a m z j : ℕ) (h s : List ℕ) → Type 0
+RaisesRows n w a m z j h s = raise_rows (n - j) w (a + j * w) m z s ≡ raise_rows n w a m z h
 
-  raise_first : 0 < left → raise_rows (left - 1) width (from + width) count z (raise_row count from z h) ≡ whole
-  unfolding raise_rows
-  raise_first l = sym (ap (λ n. raise_rows n width from count z h) (first_row left l)) ∙ d.same
+pub raise_rows_next : (n w a m z j : ℕ) (h s : List ℕ) → j < n → RaisesRows n w a m z j h s
+    → RaisesRows n w a m z (j + 1) h (raise_row m (a + j * w) z s)
+unfolding raise_rows
+raise_rows_next n w a m z j h s l e =
+    let p : n - j ≡ suc (n - (j + 1)) = omega arith in
+    let q : a + (j + 1) * w ≡ a + j * w + w = omega arith in
+    rw q (sym (ap (λ x. raise_rows x w (a + j * w) m z s) p) ∙ e)
 
-  pub raise_rows_next : (r : List ℕ) → 0 < left → r ≡ raise_row count from z h → length r ≡ length h
-      → Down (left - 1) width (from + width) count (length r) (raise_rows (left - 1) width (from + width) count z r)
-      whole
-  raise_rows_next r l e k = record { fit = rw k (rest_fit d.fit l); same = rw e (raise_first l) }
+pub raise_rows_end : (n w a m z j : ℕ) (h s : List ℕ) → n ≤ j → RaisesRows n w a m z j h s → s ≡ raise_rows n w a m z h
+unfolding raise_rows
+raise_rows_end n w a m z j h s l e =
+    let p : 0 ≡ n - j = omega arith in
+    ap (λ x. raise_rows x w (a + j * w) m z s) p ∙ e
 
--- The test of rows: the end, a turn, which passes a row, and the end at a row that is too low.
-module _ {left width from count : ℕ} {whole : Bool} (z : ℕ) (h : List ℕ)
-    (d : Down left width from count (length h) (rows_high left width from count z h) whole) where
-  pub high_rows_end : left ≤ 0 → true ≡ whole
-  unfolding rows_high
-  high_rows_end l =
-      let e : 0 ≡ left = omega arith in
-      ap (λ n. rows_high n width from count z h) e ∙ d.same
+and-false : (b : Bool) → (b && false) ≡ false
+and-false true = refl
+and-false false = refl
 
-  high_first_lem : 0 < left → (row_high count from z h && rows_high (left - 1) width (from + width) count z h) ≡ whole
-  unfolding rows_high
-  high_first_lem l = sym (ap (λ n. rows_high n width from count z h) (first_row left l)) ∙ d.same
+-- A test of n places, each w behind the one before, holds where that of each place does.
+module _ (test : ℕ → ℕ → Bool) (here : ℕ → Bool) (w : ℕ) (none : (p : ℕ) → test 0 p ≡ true)
+    (more : (n p : ℕ) → test (suc n) p ≡ (here p && test n (p + w))) where
+  each_holds : (n p : ℕ) → ((k : ℕ) → k < n → here (p + k * w) ≡ true) → test n p ≡ true
+  each_holds zero p h = none p
+  each_holds (suc n) p h =
+      let first : here p ≡ true = subst (λ q. here q ≡ true) (omega arith) (h 0 (omega arith)) in
+      more n p ∙ rw first
+      (each_holds n (p + w) (λ k l. subst (λ q. here q ≡ true) (omega arith) (h (suc k) (omega arith))))
 
-  pub high_rows_next : 0 < left → row_high count from z h ≡ true
-      → Down (left - 1) width (from + width) count (length h) (rows_high (left - 1) width (from + width) count z h) whole
-  high_rows_next l e = record { fit = rest_fit d.fit l; same = rw e at (high_first_lem l) }
+  some_fails : (n p k : ℕ) → k < n → here (p + k * w) ≡ false → test n p ≡ false
+  some_fails zero p k l e = absurd (omega arith)
+  some_fails (suc n) p zero l e =
+      let first : here p ≡ false = subst (λ q. here q ≡ false) (omega arith) e in
+      more n p ∙ rw first
+  some_fails (suc n) p (suc k) l e =
+      more n p ∙ ap (λ t. here p && t)
+      (some_fails n (p + w) k (omega arith) (subst (λ q. here q ≡ false) (omega arith) e)) ∙ and-false (here p)
 
-  pub low_rows_end : 0 < left → row_high count from z h ≡ false → false ≡ whole
-  low_rows_end l e = rw e at (high_first_lem l)
+  tested : (n p : ℕ) (r : Bool)
+      → MatchBool r ((k : ℕ) → k < n → here (p + k * w) ≡ true) ((k : ℕ) × (k < n) × (here (p + k * w) ≡ false))
+      → r ≡ test n p
+  tested n p true h = sym (each_holds n p h)
+  tested n p false h = sym (some_fails n p h.0 h.1 h.2)
+
+-- What `all` answers of the heights of a row, lent as a part, and of the rows by number.
+pub row_tested : (n m p z : ℕ) (h : List ℕ) (r : Bool) → p + n ≤ length h → m ≡ n
+    → (let s = take m (drop p h) in
+    MatchBool r (AllWithin (λ v. z ≤ v) s 0 (length s)) ((k : ℕ) × (k < length s) × HoldsAt (λ v. v < z) s k))
+    → r ≡ row_high n p z h
+unfolding row_high
+row_tested n m p z h r room same e =
+    tested (λ m q. row_high m q z h) (λ q. leb z (get_or h q 0)) 1 (λ q. refl) (λ m q. rw add-one) n p r (by r e)
+  where
+    long : length (take m (drop p h)) ≡ n
+    long = omega (arith, length-take {A = ℕ}, length-drop {A = ℕ})
+
+    place : (k : ℕ) → k < n → get_or (take m (drop p h)) k 0 ≡ get_or h (p + k * 1) 0
+    place k l = search (rules, places)
+
+    by : (t : Bool) → (let s = take m (drop p h) in
+        MatchBool t (AllWithin (λ v. z ≤ v) s 0 (length s)) ((k : ℕ) × (k < length s) × HoldsAt (λ v. v < z) s k))
+        → MatchBool t ((k : ℕ) → k < n → leb z (get_or h (p + k * 1) 0) ≡ true)
+        ((k : ℕ) × (k < n) × (leb z (get_or h (p + k * 1) 0) ≡ false))
+    by true f = λ k l. le-leb z _ (omega (arith, place k l, f k 0 (omega arith) (omega (arith, long))))
+    by false f = (f.0, omega (arith, long, f.1), lt-leb z _ (omega (arith, long, f.1, place f.0 (omega (arith, long, f.1)), f.2 0)))
+
+pub rows_tested : (n w p m z : ℕ) (h : List ℕ) (r : Bool)
+    → (let s = range_with_len 0 n in
+    MatchBool r (AllWithin (λ k. row_high m (p + k * w) z h ≡ true) s 0 (length s))
+    ((k : ℕ) × (k < length s) × HoldsAt (λ k. row_high m (p + k * w) z h ≡ false) s k))
+    → r ≡ rows_high n w p m z h
+unfolding rows_high
+rows_tested n w p m z h r e =
+    tested (λ k q. rows_high k w q m z h) (λ q. row_high m q z h) w (λ q. refl) (λ k q. refl) n p r (by r e)
+  where
+    long : length (range_with_len 0 n) ≡ n
+    long = length-range_with_len 0 n
+
+    place : (k : ℕ) → k < n → get_or (range_with_len 0 n) k 0 ≡ k
+    place k l = get_or-range_with_len 0 n k 0 l ∙ zero-add k
+
+    by : (t : Bool) → (let s = range_with_len 0 n in
+        MatchBool t (AllWithin (λ k. row_high m (p + k * w) z h ≡ true) s 0 (length s))
+        ((k : ℕ) × (k < length s) × HoldsAt (λ k. row_high m (p + k * w) z h ≡ false) s k))
+        → MatchBool t ((k : ℕ) → k < n → row_high m (p + k * w) z h ≡ true)
+        ((k : ℕ) × (k < n) × (row_high m (p + k * w) z h ≡ false))
+    by true f = λ k l. rw (place k l) at (f k 0 (omega arith) (omega (arith, long)))
+    by false f =
+        let l : f.0 < n = omega (arith, long, f.1) in
+        (f.0, l, rw (place f.0 l) at (f.2 0))

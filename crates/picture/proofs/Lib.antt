@@ -1,5 +1,6 @@
 -- What the loops and the laws of this crate rest on; the crates above cite them too.
 pub mod Answers
+pub mod LentParts
 pub mod HeightRows
 pub mod GridWords
 pub mod GridTests

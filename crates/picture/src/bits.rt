@@ -10,11 +10,7 @@ ghost use Rattle.picture.specs.Parts.{KeptOutside, Apart};
 pub fn clear(picture: &mut [u8])
     ensures { picture.new ≡ replicate (length picture.old) 0 }
 {
-    let mut i = 0;
-    while i < picture.len() {
-        picture[i] = 0;
-        i += 1;
-    }
+    picture.fill(0);
 }
 
 // The bytes of one row.
@@ -30,7 +26,7 @@ fn paint(picture: &mut [u8], at: usize, byte: u8)
     requires { at < length picture.old }
     ensures { picture.new ≡ set picture.old at (bit_or (get_or picture.old at 0) byte) }
 {
-    picture[at] = picture[at] | byte;
+    picture[at] |= byte;
 }
 
 // The byte with a 1 at its first `count` pixels alone.
@@ -60,11 +56,7 @@ fn fill_row(picture: &mut [u8], at: usize, count: usize)
 {
     let last = count - 1;
     let end = at + last / 8;
-    let mut i = at;
-    while i < end {
-        picture[i] = 255;
-        i += 1;
-    }
+    picture[at..end].fill(255);
     paint(picture, end, first_pixels(last % 8 + 1));
 }
 
@@ -79,10 +71,8 @@ pub fn fill_rect(picture: &mut [u8], width: usize, x: usize, y: usize, xend: usi
     let row = stride(width);
     let first = x / 8;
     let count = xend - x;
-    let mut j = y;
-    while j < yend {
+    for j in y..yend {
         fill_row(picture, j * row + first, count);
-        j += 1;
     }
 }
 

@@ -4,7 +4,10 @@ ghost use Rattle.std.specs.Int.{w64};
 ghost use Rattle.std.proofs.Common.{SFits};
 ghost use Rattle.rules.specs.Values.{IsValue, reaches};
 ghost use Rattle.rules.specs.Drawings.{at, size_ok, axis_ok, sizes_ok, axes_ok, grid_fault};
+ghost use Rattle.faults.specs.Numbers.{fault_of};
 ghost use Rattle.picture.specs.Shapes.{grid_in};
+
+use faults::Fault;
 
 const SIZE_LIMIT: u32 = 512;
 
@@ -72,6 +75,7 @@ fn axis_ok(origin: i32, step: i32, n: u32) -> bool
     is_value(along(origin, step, n - 1))
 }
 
+// `solid` is the flag of the rules: `sizes_ok`, `axes_ok` and `grid_fault` speak of both kinds at once.
 fn sizes_ok(solid: bool, grid: Grid) -> bool
     ensures { result ≡ sizes_ok solid (grid_in grid solid) }
 {
@@ -103,15 +107,15 @@ fn axes_ok(solid: bool, grid: Grid) -> bool
     axis_ok(grid.zorigin, grid.zstep, grid.depth)
 }
 
-// The line of the refusals that a grid meets first, or 0.
-pub fn grid_fault(solid: bool, grid: Grid) -> u8
-    ensures { result ≡ grid_fault solid (grid_in grid solid) }
+// Lines 10 and 11, of a grid: its sizes, and then its axes.
+pub fn check_axes(solid: bool, grid: Grid) -> Result<(), Fault>
+    ensures { fault_of result ≡ grid_fault solid (grid_in grid solid) }
 {
     if !sizes_ok(solid, grid) {
-        return 10;
+        return Err(Fault::WrongSize);
     }
     if !axes_ok(solid, grid) {
-        return 11;
+        return Err(Fault::WrongAxis);
     }
-    0
+    Ok(())
 }

@@ -1,23 +1,12 @@
 // Heights of a solid picture: clearing, raising a rectangle, and the test whether it is high already.
-ghost use Rattle.std.specs.Prelude.{◌≡◌, ◌+◌, ◌≤◌, ltb, length, replicate};
-ghost use Rattle.rules.specs.Values.{pick};
+ghost use Rattle.std.specs.Prelude.{◌≡◌, ◌+◌, ◌≤◌, length, replicate};
 ghost use Rattle.rules.specs.Drawings.{raise_row, raise_rows, row_high, rows_high};
 ghost use Rattle.picture.specs.Heights.{RowsFit};
 
 pub fn clear(heights: &mut [u16])
     ensures { heights.new ≡ replicate (length heights.old) 0 }
 {
-    let mut i = 0;
-    while i < heights.len() {
-        heights[i] = 0;
-        i += 1;
-    }
-}
-
-fn higher(h: u16, z: u16) -> u16
-    ensures { result ≡ pick (ltb h z) z h }
-{
-    if h < z { z } else { h }
+    heights.fill(0);
 }
 
 // Raises `count` heights from `from` on to `z`, and lowers none. Every height is stored, also one that stays, so that
@@ -26,11 +15,8 @@ fn raise_row(heights: &mut [u16], from: usize, count: usize, z: u16)
     requires { from + count ≤ length heights.old }
     ensures { heights.new ≡ raise_row count from z heights.old }
 {
-    let end = from + count;
-    let mut i = from;
-    while i < end {
-        heights[i] = higher(heights[i], z);
-        i += 1;
+    for h in &mut heights[from..from + count] {
+        *h = (*h).max(z);
     }
 }
 
@@ -39,12 +25,8 @@ pub fn raise_rows(heights: &mut [u16], rows: usize, width: usize, from: usize, c
     requires { RowsFit rows width from count (length heights.old) }
     ensures { heights.new ≡ raise_rows rows width from count z heights.old }
 {
-    let mut left = rows;
-    let mut at = from;
-    while 0 < left {
-        raise_row(heights, at, count, z);
-        at += width;
-        left -= 1;
+    for j in 0..rows {
+        raise_row(heights, from + j * width, count, z);
     }
 }
 
@@ -53,15 +35,7 @@ fn row_high(heights: &[u16], from: usize, count: usize, z: u16) -> bool
     requires { from + count ≤ length heights.now }
     ensures { result ≡ row_high count from z heights.now }
 {
-    let end = from + count;
-    let mut i = from;
-    while i < end {
-        if heights[i] < z {
-            return false;
-        }
-        i += 1;
-    }
-    true
+    heights[from..from + count].iter().all(|h| *h >= z)
 }
 
 // Whether a rectangle's heights are all at least `z`.
@@ -76,14 +50,5 @@ pub fn rows_high(
     requires { RowsFit rows width from count (length heights.now) }
     ensures { result ≡ rows_high rows width from count z heights.now }
 {
-    let mut left = rows;
-    let mut at = from;
-    while 0 < left {
-        if !row_high(heights, at, count, z) {
-            return false;
-        }
-        at += width;
-        left -= 1;
-    }
-    true
+    (0..rows).all(|j| row_high(heights, from + j * width, count, z))
 }

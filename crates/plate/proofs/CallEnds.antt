@@ -1,5 +1,5 @@
 -- The lines of a plate's call in their stages, what none of them refuses has, and the two ends of the call.
-use mathlib.Core.Path.{◌≡◌, refl, sym, ap, ◌∙◌}
+use mathlib.Core.Path.{◌≡◌, refl, sym, ap, ap₂, ◌∙◌}
 use mathlib.Core.Bool.{Bool, true, false, ◌&&◌, not}
 use mathlib.Core.List.{List, [], ◌∷◌}
 use Prim.Native.Nat.{ℕ, ◌<◌, ◌≤◌}
@@ -16,7 +16,12 @@ use Rattle.rules.proofs.Places.{tape_placed}
 use Rattle.picture.specs.Shapes.{grid_in}
 use Rattle.picture.specs.declared.grid.Grid.{Grid}
 use Rattle.picture.proofs.PictureSizes.{flat_size_lem}
+use Rattle.faults.specs.declared.Fault.{Fault}
+use Rattle.faults.specs.declared.Refusal.{Refusal}
+use Rattle.faults.specs.Numbers.{number_of}
+use Rattle.faults.proofs.NumberLaws.{some_number}
 use Rattle.answers.specs.declared.Answer.{Answer}
+use Rattle.answers.specs.Says.{refused}
 use Rattle.answers.proofs.Ends.{answer, no_figure}
 use Rattle.plate_rules.specs.Plate.{Plate, places, plate_size, places_of, no_fault, place_fault, places_fault, bad_place}
 use Rattle.plate_rules.specs.Plate.{all_zero, tape_in}
@@ -30,31 +35,37 @@ module _ (c : Call) (m o w : List ℕ) where
   abbrev q : Plate
   q = plate m o
 
-  pub call_refused : (n p : ℕ) {r : Answer} → fault_of c q ≡ n → (n ≡ 0 → ⊥) → p ≡ place_of n (fault_clause c q) → r ≡ answer n p 0
-      → PlateSays c m m o o w w r
-  call_refused n p e z k a =
-      let f = ne_eqb (fault_of c q) 0 (λ h. z (sym e ∙ h)) in
+  pub call_refused : (r : Refusal) → fault_of c q ≡ number_of r.fault → r.place ≡ place_of (number_of r.fault) (fault_clause c q)
+      → PlateSays c m m o o w w (refused r)
+  call_refused r e k =
+      let f = ne_eqb (fault_of c q) 0 (λ h. some_number r.fault (sym e ∙ h)) in
       record {
-        answer = rw a (record {
+        answer = record {
           number = sym e;
           place = k ∙ ap (λ i. place_of i (fault_clause c q)) (sym e);
           count = no_figure (eqb (fault_of c q) 0);
-        });
+        };
         memory = rw f;
         pixels = rw f;
         work = rw f;
       }
 
-  pub call_done : {m' o' w' : List ℕ} {r : Answer} → fault_of c q ≡ 0 → r ≡ answer 0 0 0 → m' ≡ (done_by c q).memory
-      → o' ≡ (done_by c q).picture → w' ≡ replicate (length w) 0 → PlateSays c m m' o o' w w' r
-  call_done e a x y z =
+  -- Line 22, which has no clause.
+  pub call_misplaced : (f : Fault) → fault_of c q ≡ 22 → number_of f ≡ 22
+      → PlateSays c m m o o w w (refused (record { fault = f; place = 0 }))
+  call_misplaced f e k =
+      call_refused (record { fault = f; place = 0 }) (e ∙ sym k) (ap (λ n. place_of n (fault_clause c q)) (sym k))
+
+  pub call_done : {m' o' w' : List ℕ} → fault_of c q ≡ 0 → m' ≡ (done_by c q).memory → o' ≡ (done_by c q).picture
+      → w' ≡ replicate (length w) 0 → PlateSays c m m' o o' w w' (answer 0 0 0)
+  call_done e x y z =
       let f = eq-eqb (fault_of c q) 0 e in
       record {
-        answer = rw a (record {
+        answer = record {
           number = sym e;
           place = ap (λ i. place_of i (fault_clause c q)) (sym e);
           count = no_figure (eqb (fault_of c q) 0);
-        });
+        };
         memory = x ∙ rw f;
         pixels = y ∙ rw f;
         work = z ∙ rw f;
@@ -94,33 +105,37 @@ pub record MemoryLines (c : Call) (q : Plate) : Type 0 where
   pub places_line : length q.memory ≡ plate_size → ((bad_place q).number ≡ 0 → ⊥) → fault_of c q ≡ (bad_place q).number
   pub clause : ((bad_place q).number ≡ 0 → ⊥) → fault_clause c q ≡ (bad_place q).place
 
-module _ (m o w : List ℕ) {r : Answer} (k : MemoryChecked m r) where
-  pub memory_refused : (c : Call) → MemoryLines c (plate m o) → (r.number ≡ 0 → ⊥) → PlateSays c m m o o w w r
-  memory_refused c l n = go (eqb (length m) plate_size) refl
-    where
-      go : (t : Bool) → eqb (length m) plate_size ≡ t → PlateSays c m m o o w w r
-      go true e =
-          let h = eqb-true (length m) plate_size e in
-          let f = k.right h in
-          let z : (bad_place (plate m o)).number ≡ 0 → ⊥ = λ i. n (ap (λ (a : Answer). a.number) f ∙ i) in
-          let b = bad_place (plate m o) in
-          call_refused c m o w b.number b.place (l.places_line h z) z
-          (all_placed (places_of m) ∙ ap (place_of b.number) (sym (l.clause z))) f
-      go false e =
-          let h = eqb-false (length m) plate_size e in
-          call_refused c m o w 14 0 (l.length_line_lem h) (λ i. omega (arith, i)) refl (k.wrong h)
+pub memory_refused : (c : Call) (m o w : List ℕ) → MemoryLines c (plate m o) → (r : Refusal) → MemoryChecked m (refused r)
+    → PlateSays c m m o o w w (refused r)
+memory_refused c m o w l r k = go (eqb (length m) plate_size) refl
+  where
+    go : (t : Bool) → eqb (length m) plate_size ≡ t → PlateSays c m m o o w w (refused r)
+    go true e =
+        let h = eqb-true (length m) plate_size e in
+        let b = bad_place (plate m o) in
+        let n : number_of r.fault ≡ b.number = ap (λ (a : Answer). a.number) (k.right h) in
+        let z : b.number ≡ 0 → ⊥ = λ i. some_number r.fault (n ∙ i) in
+        call_refused c m o w r (l.places_line h z ∙ sym n)
+        (ap (λ (a : Answer). a.place) (k.right h) ∙ all_placed (places_of m) ∙ ap₂ place_of (sym n) (sym (l.clause z)))
+    go false e =
+        let h = eqb-false (length m) plate_size e in
+        let n : number_of r.fault ≡ 14 = ap (λ (a : Answer). a.number) (k.wrong h) in
+        call_refused c m o w r (l.length_line_lem h ∙ sym n)
+        (ap (λ (a : Answer). a.place) (k.wrong h) ∙ ap (λ i. place_of i (fault_clause c (plate m o))) (sym n))
 
-  pub memory_size : r.number ≡ 0 → length m ≡ plate_size
-  memory_size z = go (eqb (length m) plate_size) refl
+-- A memory that is not refused.
+module _ (m : List ℕ) (k : MemoryChecked m (answer 0 0 0)) where
+  pub memory_size : length m ≡ plate_size
+  memory_size = go (eqb (length m) plate_size) refl
     where
       go : (t : Bool) → eqb (length m) plate_size ≡ t → length m ≡ plate_size
       go true e = eqb-true (length m) plate_size e
       go false e =
           let f = ap (λ (a : Answer). a.number) (k.wrong (eqb-false (length m) plate_size e)) in
-          absurd (omega (arith, f, z))
+          absurd (omega (arith, f))
 
-  pub places_clear : r.number ≡ 0 → (places_fault (places_of m)).number ≡ 0
-  places_clear z = sym (ap (λ (a : Answer). a.number) (k.right (memory_size z))) ∙ z
+  pub places_clear : (places_fault (places_of m)).number ≡ 0
+  places_clear = sym (ap (λ (a : Answer). a.number) (k.right memory_size))
 
 -- No place at fault has no clause.
 pub clause_clear : (m : List ℕ) → (places_fault (places_of m)).number ≡ 0 → (places_fault (places_of m)).place ≡ 0
@@ -150,10 +165,10 @@ module _ (grid : Grid) (m o w : List ℕ) (p : ℕ) (s : List ℕ) (size : lengt
       enough true e f = absurd (omega (arith, f))
       enough false e f = ltb-false (length w) D.work_limit e
 
--- Line 22, by its test; and the place of one that passes it.
-pub line_on : (t : Bool) {f : ℕ} → f ≡ when (not t) 22 → (f ≡ 0 → ⊥) → t ≡ false
-line_on true e n = absurd (n e)
-line_on false e n = refl
+-- Line 22, by its test: refused, and passed.
+pub line_on : (t : Bool) (f : Fault) → number_of f ≡ when (not t) 22 → (t ≡ false) × (number_of f ≡ 22)
+line_on true f e = absurd (some_number f e)
+line_on false f e = (refl, e)
 
-pub line_passed : (t : Bool) {f : ℕ} → f ≡ when (not t) 22 → f ≡ 0 → t ≡ true
-line_passed t e z = line_off t 21 (sym e ∙ z)
+pub line_passed : (t : Bool) → 0 ≡ when (not t) 22 → t ≡ true
+line_passed t e = line_off t 21 (sym e)

@@ -12,7 +12,9 @@ use Rattle.rules.specs.Tapes.{read_tape}
 use Rattle.rules.proofs.Tests.{and_left, and_right}
 use Rattle.picture.specs.Shapes.{grid_in}
 use Rattle.picture.specs.declared.grid.Grid.{Grid}
-use Rattle.answers.specs.declared.Answer.{Answer}
+use Rattle.faults.specs.declared.Fault.{Fault}
+use Rattle.faults.specs.Numbers.{number_of}
+use Rattle.answers.specs.Says.{refused}
 use Rattle.answers.proofs.Ends.{answer}
 use Rattle.plate_rules.specs.Plate.{places, plate_size, places_of, place_at, places_fault}
 use Rattle.plate_rules.specs.Plate.{all_zero, tape_in, part_in, afresh, redrawn, stored, zeros, is_taken}
@@ -23,16 +25,23 @@ use Rattle.plate_rules.proofs.Places.{places_length}
 use Rattle.plate_rules.proofs.Refusals.{RemoveOrder, remove_order}
 use Rattle.plate_places.specs.Places.{TapeEnd}
 use Rattle.plate_places.proofs.PlaceLaws.{place_bytes}
-use Rattle.plate_checks.specs.Checks.{lent_fault}
+use Rattle.plate_checks.specs.Checks.{MemoryChecked, lent_fault}
 use Rattle.plate_drawing.specs.Afresh.{ForChange}
 use Rattle.promises.specs.Plates.{plate, PlateSays}
-use Rattle.plate.proofs.CallEnds.{call_refused, call_done, MemoryLines, line_on, line_passed, nowhere, clause_clear, for_change}
+use Rattle.plate.proofs.CallEnds.{call_refused, call_misplaced, call_done, MemoryLines, memory_size, places_clear}
+use Rattle.plate.proofs.CallEnds.{line_on, line_passed, nowhere, clause_clear, for_change}
 
 -- The tape of a place, as the code lends it.
 pub tape_there : (p : ℕ) (m : List ℕ) {n : ℕ} → p < places
     → TapeEnd (take (p * 65536 + 65536 - p * 65536) (drop (p * 65536) m)) n
     → take n (take (p * 65536 + 65536 - p * 65536) (drop (p * 65536) m)) ≡ tape_in (place_at p m)
 tape_there p m l t = t.bytes ∙ ap tape_in (place_bytes m p l)
+
+-- The place that is taken is one.
+pub place_taken : (p : ℕ) (m : List ℕ) → 0 ≡ when (not (is_taken p m)) 22 → p < places
+unfolding is_taken
+place_taken p m e =
+    ltb-true p places (and_left (ltb p places) (not (all_zero (place_at p m))) (line_passed (is_taken p m) e))
 
 module _ (p : ℕ) (grid : Grid) (m o w : List ℕ) where
   abbrev removing : Call
@@ -44,23 +53,25 @@ module _ (p : ℕ) (grid : Grid) (m o w : List ℕ) where
       let k = remove_order p (grid_in grid false) (plate m o) (length w) in
       record { length_line_lem = k.memory; places_line = k.places; clause = λ n. refl }
 
-  module _ (size : length m ≡ plate_size) (clear : (places_fault (places_of m)).number ≡ 0) {f : ℕ}
-      (line : f ≡ when (not (is_taken p m)) 22) where
+  module _ (k : MemoryChecked m (answer 0 0 0)) where
+    size : length m ≡ plate_size
+    size = memory_size m k
+
+    clear : (places_fault (places_of m)).number ≡ 0
+    clear = places_clear m k
+
     lines : RemoveOrder p (grid_in grid false) (plate m o) (length w)
     lines = remove_order p (grid_in grid false) (plate m o) (length w)
 
-    pub remove_at_22 : {r : Answer} → (f ≡ 0 → ⊥) → r ≡ answer 22 0 0 → PlateSays removing m m o o w w r
+    pub remove_at_22 : (f : Fault) → number_of f ≡ when (not (is_taken p m)) 22
+        → PlateSays removing m m o o w w (refused (record { fault = f; place = 0 }))
     unfolding fault_of
-    remove_at_22 n a =
-        call_refused removing m o w 22 0 (lines.place size clear (line_on (is_taken p m) line n)) (λ i. omega (arith, i)) refl a
+    remove_at_22 f e =
+        let l = line_on (is_taken p m) f e in call_misplaced removing m o w f (lines.place size clear l.0) l.1
 
-    module _ (z : f ≡ 0) where
+    module _ (line : 0 ≡ when (not (is_taken p m)) 22) where
       taken : is_taken p m ≡ true
-      taken = line_passed (is_taken p m) line z
-
-      pub remove_in_plate : p < places
-      unfolding is_taken
-      remove_in_plate = ltb-true p places (and_left (ltb p places) (not (all_zero (place_at p m))) taken)
+      taken = line_passed (is_taken p m) line
 
       held : all_zero (place_at p m) ≡ false
       unfolding is_taken
@@ -71,25 +82,28 @@ module _ (p : ℕ) (grid : Grid) (m o w : List ℕ) where
       read : (read_tape (tape_in (place_at p m))).number ≡ 0
       read =
           taken_accepted (place_at p m)
-          (place_faultless (places_of m) clear p (omega (arith, places_length places m, remove_in_plate))) held
+          (place_faultless (places_of m) clear p (omega (arith, places_length places m, place_taken p m line))) held
 
-      module _ {l : ℕ} (found : l ≡ lent_fault (grid_in grid false) (length o) (length w)) where
-        fault_lent : fault_of removing (plate m o) ≡ l
-        unfolding fault_of
-        fault_lent = lines.rest size clear taken ∙ sym found
+      fault_lent : fault_of removing (plate m o) ≡ lent_fault (grid_in grid false) (length o) (length w)
+      unfolding fault_of
+      fault_lent = lines.rest size clear taken
 
-        no_clause : fault_clause removing (plate m o) ≡ 0
-        unfolding fault_clause remove_clause
-        no_clause = clause_clear m clear
+      no_clause : fault_clause removing (plate m o) ≡ 0
+      unfolding fault_clause remove_clause
+      no_clause = clause_clear m clear
 
-        pub remove_at_lent : {r : Answer} → (l ≡ 0 → ⊥) → r ≡ answer l 0 0 → PlateSays removing m m o o w w r
-        remove_at_lent n a = call_refused removing m o w l 0 fault_lent n (nowhere l no_clause) a
+      pub remove_at_lent : (f : Fault) → number_of f ≡ lent_fault (grid_in grid false) (length o) (length w)
+          → PlateSays removing m m o o w w (refused (record { fault = f; place = 0 }))
+      remove_at_lent f e =
+          call_refused removing m o w (record { fault = f; place = 0 }) (fault_lent ∙ sym e) (nowhere (number_of f) no_clause)
 
-        pub remove_asked : l ≡ 0 → ForChange m p (tape_in (place_at p m)) grid o w
-        remove_asked e = for_change grid m o w p (tape_in (place_at p m)) size clear remove_in_plate read (sym found ∙ e)
+      module _ (lent : 0 ≡ lent_fault (grid_in grid false) (length o) (length w)) where
+        pub remove_asked : ForChange m p (tape_in (place_at p m)) grid o w
+        remove_asked =
+            for_change grid m o w p (tape_in (place_at p m)) size clear (place_taken p m line) read (sym lent)
 
-        pub remove_done : l ≡ 0 → {m' o' w' : List ℕ} {r : Answer} → r ≡ answer 0 0 0 → m' ≡ stored p zeros m
+        pub remove_done : {m' o' w' : List ℕ} → m' ≡ stored p zeros m
             → o' ≡ redrawn (part_in (place_at p m)) (grid_in grid false) (afresh (stored p zeros m) (grid_in grid false)) o
-            → w' ≡ replicate (length w) 0 → PlateSays removing m m' o o' w w' r
+            → w' ≡ replicate (length w) 0 → PlateSays removing m m' o o' w w' (answer 0 0 0)
         unfolding done_by plate_remove changed
-        remove_done e a x y v = call_done removing m o w (fault_lent ∙ e) a x y v
+        remove_done x y v = call_done removing m o w (fault_lent ∙ sym lent) x y v

@@ -1,6 +1,6 @@
 -- Parts joined one after another.
 use mathlib.Core.Path.{◌≡◌, refl, sym, ap, ap₂, subst, ◌∙◌}
-use mathlib.Core.Bool.{Bool, true, false}
+use mathlib.Core.Bool.{true, false}
 use mathlib.Core.List.{List, [], ◌∷◌, ◌++◌}
 use Prim.Native.Nat.{ℕ, ◌+◌, ◌-◌, ◌*◌, ◌<◌, ◌≤◌, max}
 use native.Mathlib.Nat.{mul-le-mul_right}
@@ -36,6 +36,8 @@ use Rattle.patches.specs.Patches.{nothing}
 use Rattle.plate_tiles.specs.Tiles.{Sized, tile_count, tile_numbered, MarkedBy, Marked, TilesSet}
 use Rattle.plate_tiles.specs.Joins.{with_part}
 use Rattle.plate_tiles.proofs.TileNumbers.{number_below}
+use Rattle.plate_drawing.specs.declared.Change.{Change}
+use Rattle.plate_drawing.specs.declared.Change.TheVariants.{Added, Removed}
 use Rattle.plate_drawing.specs.Afresh.{Show, Kept, Joins, added_heights, Began, Buffers, ForPlace, ForPlaces}
 
 -- What was lent, lent again.
@@ -206,16 +208,16 @@ pub all_placed : (n : ℕ) (m : List ℕ) → take n (places_from n m) ≡ place
 all_placed n m = take_all n (places_from n m) (omega (arith, places_length n m))
 
 -- The part that comes, or none.
-pub added_none : (adds : Bool) (t : Tape) (grid : Grid) (marks b : List ℕ) → adds ≡ false
-    → Joins grid marks (added_heights adds t grid) b b
-added_none adds t grid marks b e =
-    joins_none grid marks (added_heights adds t grid) b
+pub added_none : (change : Change) (t : Tape) (grid : Grid) (marks b : List ℕ) → change ≡ Removed
+    → Joins grid marks (added_heights change t grid) b b
+added_none change t grid marks b e =
+    joins_none grid marks (added_heights change t grid) b
     (λ p. ap (λ a. get_or (added_heights a t grid) p 0) e ∙ zeros_at (grid.width * grid.height) p)
 
-pub added_some : (adds : Bool) (t : Tape) (grid : Grid) (marks : List ℕ) {b b' : List ℕ} → adds ≡ true
-    → Joins grid marks (D.drawn t (grid_in grid false)) b b' → Joins grid marks (added_heights adds t grid) b b'
-added_some adds t grid marks e j =
-    joins_same (D.drawn t (grid_in grid false)) (added_heights adds t grid)
+pub added_some : (change : Change) (t : Tape) (grid : Grid) (marks : List ℕ) {b b' : List ℕ} → change ≡ Added
+    → Joins grid marks (D.drawn t (grid_in grid false)) b b' → Joins grid marks (added_heights change t grid) b b'
+added_some change t grid marks e j =
+    joins_same (D.drawn t (grid_in grid false)) (added_heights change t grid)
     (λ p. ap (λ a. get_or (added_heights a t grid) p 0) e) j
 
 -- The touched tiles cleared, and the part joined to them.
@@ -232,20 +234,20 @@ cleared_shown {grid} s k =
     }
 
 pub begun : {grid : Grid} → Sized grid → {code marks : List ℕ} (n : ℕ) → Accepted (wordTape n code) → (t : Tape)
-    → wordTape n code ≡ t → (adds : Bool) → MarkedBy code grid (tile_count grid) marks → {b c d : List ℕ}
+    → wordTape n code ≡ t → (change : Change) → MarkedBy code grid (tile_count grid) marks → {b c d : List ℕ}
     → TilesSet grid (Marked marks (tile_count grid)) nothing b c
-    → ((i : ℕ) → Accepted (wordTape i code) → Joins grid marks (added_heights adds (wordTape i code) grid) c d)
-    → Began t adds grid marks b d
-begun {grid} s {code} {marks} n a t e adds m {b} {c} {d} k j =
+    → ((i : ℕ) → Accepted (wordTape i code) → Joins grid marks (added_heights change (wordTape i code) grid) c d)
+    → Began t change grid marks b d
+begun {grid} s {code} {marks} n a t e change m {b} {c} {d} k j =
     let g = grid_in grid false in
     let z : List ℕ = replicate (grid.width * grid.height) 0 in
-    let i : Joins grid marks (added_heights adds t grid) c d =
-    subst (λ u. Joins grid marks (added_heights adds u grid) c d) e (j n a) in
+    let i : Joins grid marks (added_heights change t grid) c d =
+    subst (λ u. Joins grid marks (added_heights change u grid) c d) e (j n a) in
     record {
       each = λ q l. m.each n a q l ∙ ap (λ u. when (touched u g (tile_numbered grid q)) 1) e;
       shown =
-          show_same (greater z (added_heights adds t grid)) (added_heights adds t grid)
-          (λ p. omega (arith, greater_at z (added_heights adds t grid) p, zeros_at (grid.width * grid.height) p))
+          show_same (greater z (added_heights change t grid)) (added_heights change t grid)
+          (λ p. omega (arith, greater_at z (added_heights change t grid) p, zeros_at (grid.width * grid.height) p))
           (i.shown z (λ p. omega (arith, zeros_at (grid.width * grid.height) p)) (cleared_shown s k));
       kept = kept_then (record { bytes = λ y x l o z. k.outside y x l o (λ q. q.on z) }) i.kept;
     }

@@ -1,6 +1,6 @@
 -- The tiles begun, and the other places joined: the picture drawn afresh where the part touches it.
 use mathlib.Core.Path.{◌≡◌, refl, sym, ap, ap₂, ◌∙◌}
-use mathlib.Core.Bool.{Bool, true, false}
+use mathlib.Core.Bool.{false}
 use mathlib.Core.List.{List, ◌∷◌, ◌++◌}
 use Prim.Native.Nat.{ℕ, suc, ◌+◌, ◌-◌, ◌*◌, ◌<◌, ◌≤◌}
 use native.Mathlib.Nat.{mul-le-mul_right}
@@ -28,6 +28,8 @@ use Rattle.plate_rules.proofs.Stored.{padded_size, reads_back, stored_taken}
 use Rattle.plate_rules.proofs.WalkTiles.{redrawn_rows}
 use Rattle.plate_tiles.specs.Tiles.{Sized, number_of}
 use Rattle.plate_tiles.proofs.TileNumbers.{number_below, numbered_tile}
+use Rattle.plate_drawing.specs.declared.Change.{Change}
+use Rattle.plate_drawing.specs.declared.Change.TheVariants.{Added, Removed}
 use Rattle.plate_drawing.specs.Afresh.{Joins, added_heights, Began, others_of, comes, picture_limit}
 
 -- As much of the zeros as a flat picture is long.
@@ -40,17 +42,17 @@ picture_fits {grid} r =
 pub blank_front : (n : ℕ) {b : List ℕ} → b ≡ replicate picture_limit 0 → n ≤ picture_limit → take n b ≡ replicate n 0
 blank_front n e l = ap (take n) e ∙ take_replicate n picture_limit 0 l
 
-comes_size : (adds : Bool) (s : List ℕ) → (read_tape s).number ≡ 0 → length (comes adds s) ≡ place_size
-comes_size true s e = padded_size s e
-comes_size false s e = zeros_size
+comes_size : (change : Change) (s : List ℕ) → (read_tape s).number ≡ 0 → length (comes change s) ≡ place_size
+comes_size Added s e = padded_size s e
+comes_size Removed s e = zeros_size
 
-comes_height : (adds : Bool) (s : List ℕ) (grid : Grid) → (read_tape s).number ≡ 0 → (p : ℕ)
-    → height_in (comes adds s) (grid_in grid false) p ≡ get_or (added_heights adds (read_tape s).tape grid) p 0
+comes_height : (change : Change) (s : List ℕ) (grid : Grid) → (read_tape s).number ≡ 0 → (p : ℕ)
+    → height_in (comes change s) (grid_in grid false) p ≡ get_or (added_heights change (read_tape s).tape grid) p 0
 unfolding height_in
-comes_height true s grid e p =
+comes_height Added s grid e p =
     rw (stored_taken s e)
     (ap (λ t. get_or (D.drawn t.tape (grid_in grid false)) p 0) (reads_back s e))
-comes_height false s grid e p = rw zeros_empty (sym (zeros_at (grid.width * grid.height) p))
+comes_height Removed s grid e p = rw zeros_empty (sym (zeros_at (grid.width * grid.height) p))
 
 -- The places after the call.
 places_after : (p : ℕ) (b m : List ℕ) → p < places → length m ≡ plate_size → length b ≡ place_size
@@ -64,7 +66,7 @@ places_after p b m l e f =
     (length-take-le (p * place_size) m (omega (arith, e, mul-le-mul_right place_size l)))
     ∙ ap₂ (λ i j. places_from p u ++ (i ∷ places_from (7 - p) j)) (take_at b v place_size f) (drop_at b v place_size f)
 
-module _ (p : ℕ) (s : List ℕ) (adds : Bool) (grid : Grid) (m : List ℕ) (l : p < places) (e : length m ≡ plate_size)
+module _ (p : ℕ) (s : List ℕ) (change : Change) (grid : Grid) (m : List ℕ) (l : p < places) (e : length m ≡ plate_size)
     (read : (read_tape s).number ≡ 0) where
   abbrev g : D.Grid
   g = grid_in grid false
@@ -73,34 +75,34 @@ module _ (p : ℕ) (s : List ℕ) (adds : Bool) (grid : Grid) (m : List ℕ) (l 
   t = (read_tape s).tape
 
   abbrev all : List ℕ
-  all = union_of (parts_in (places_of (stored p (comes adds s) m))) g
+  all = union_of (parts_in (places_of (stored p (comes change s) m))) g
 
   abbrev others : List ℕ
   others = union_of (parts_in (others_of p m)) g
 
   -- The part that comes and the others, pixel by pixel.
-  same : (i : ℕ) → get_or (greater (added_heights adds t grid) others) i 0 ≡ get_or all i 0
+  same : (i : ℕ) → get_or (greater (added_heights change t grid) others) i 0 ≡ get_or all i 0
   same i =
       let us = places_from p (take (p * place_size) m) in
       let vs = places_from (7 - p) (drop (suc p * place_size) m) in
-      let b = comes adds s in
-      let after = ap (λ ps. heights ps g i) (places_after p b m l e (comes_size adds s read)) in
+      let b = comes change s in
+      let after = ap (λ ps. heights ps g i) (places_after p b m l e (comes_size change s read)) in
       omega (
         arith,
-        greater_at (added_heights adds t grid) others i,
-        comes_height adds s grid read i,
+        greater_at (added_heights change t grid) others i,
+        comes_height change s grid read i,
         after,
         union_append us (b ∷ vs) g i,
         union_first b vs g i,
         union_append us vs g i,
       )
 
-  added_most : (a : Bool) (i : ℕ) → get_or (added_heights a t grid) i 0 ≤ 1
-  added_most true i = (drawn_flat t g refl).most i
-  added_most false i = omega (arith, zeros_at (grid.width * grid.height) i)
+  added_most : (a : Change) (i : ℕ) → get_or (added_heights a t grid) i 0 ≤ 1
+  added_most Added i = (drawn_flat t g refl).most i
+  added_most Removed i = omega (arith, zeros_at (grid.width * grid.height) i)
 
   module _ {marks b c d : List ℕ} (r : Ready false grid b) (size : length d ≡ length b)
-      (k : Began t adds grid marks b c) (j : Joins grid marks others c d) where
+      (k : Began t change grid marks b c) (j : Joins grid marks others c d) where
     mark : (y x : ℕ) → y < grid.height → x < stride grid.width
         → get_or marks (number_of grid y x) 0 ≡ when (touched t g (tile_of y x)) 1
     mark y x h o =
@@ -108,7 +110,7 @@ module _ (p : ℕ) (s : List ℕ) (adds : Bool) (grid : Grid) (m : List ℕ) (l 
         k.each (number_of grid y x) (number_below s y x h o)
         ∙ ap (λ q. when (touched t g q) 1) (numbered_tile s y x h o)
 
-    pub redrawn_all : d ≡ redrawn t g (afresh (stored p (comes adds s) m) g) b
+    pub redrawn_all : d ≡ redrawn t g (afresh (stored p (comes change s) m) g) b
     unfolding afresh
     redrawn_all =
         redrawn_rows t g (bits_of grid.width grid.height all) b d
@@ -119,8 +121,8 @@ module _ (p : ℕ) (s : List ℕ) (adds : Bool) (grid : Grid) (m : List ℕ) (l 
               let off = mark y x h o ∙ ap (λ v. when v 1) z in
               j.kept.bytes y x h o off ∙ k.kept.bytes y x h o off;
           drawn = λ y x h o z.
-              (j.shown (added_heights adds t grid) (added_most adds) k.shown).bytes y x h o
+              (j.shown (added_heights change t grid) (added_most change) k.shown).bytes y x h o
               (λ off. omega (arith, off, mark y x h o ∙ ap (λ v. when v 1) z))
-              ∙ bytes_agree grid.width grid.height (greater (added_heights adds t grid) others) all y x h o
+              ∙ bytes_agree grid.width grid.height (greater (added_heights change t grid) others) all y x h o
               (λ n u v. same (y * grid.width + (8 * x + n)));
         })

@@ -1,6 +1,6 @@
 -- The marked tiles against heights: what they show, and what parts that are joined make of it.
-use Rattle.std.specs.Prelude.{◌≡◌, Bool, false, List, ◌++◌, ℕ, suc, ◌+◌, ◌-◌, ◌*◌, ◌<◌, ◌≤◌, length, get_or, take, drop, replicate}
-use Rattle.rules.specs.Values.{pick, when}
+use Rattle.std.specs.Prelude.{◌≡◌, false, List, ◌++◌, ℕ, suc, ◌+◌, ◌-◌, ◌*◌, ◌<◌, ◌≤◌, length, get_or, take, drop, replicate}
+use Rattle.rules.specs.Values.{when}
 use Rattle.rules.specs.Tapes.{clause_limit, read_tape, Tape}
 use Rattle.rules.specs.Drawings as D
 use Rattle.rules.specs.Pictures.{stride, bits_of}
@@ -9,6 +9,8 @@ use Rattle.picture.specs.declared.grid.Grid.{Grid}
 use Rattle.walk.specs.Cells.{Ready, size_in}
 use Rattle.plate_rules.specs.Plate.{places, place_size, plate_size, places_from, places_of, place_fault, places_fault}
 use Rattle.plate_rules.specs.Plate.{padded, zeros, greater, touched}
+use Rattle.plate_drawing.specs.declared.Change.{Change}
+use Rattle.plate_drawing.specs.declared.Change.TheVariants.{Added, Removed}
 use Rattle.plate_tiles.specs.Tiles.{tile_limit, tile_count, tile_numbered, number_of}
 
 -- The bytes of the marked tiles are those of the heights h.
@@ -47,14 +49,15 @@ pub record ForPlaces (b : List ℕ) (count : ℕ) : Type 0 where
   pub faultless : (places_fault (places_from count b)).number ≡ 0
 
 -- The part that comes, as heights; none where the part goes.
-abbrev pub added_heights : Bool → Tape → Grid → List ℕ
-added_heights adds t grid = pick adds (D.drawn t (grid_in grid false)) (replicate (grid.width * grid.height) 0)
+abbrev pub added_heights : Change → Tape → Grid → List ℕ
+added_heights Added t grid = D.drawn t (grid_in grid false)
+added_heights Removed t grid = replicate (grid.width * grid.height) 0
 
 -- The tiles that the part touches are marked with a 1 and show the part if it comes; the others are as they were.
-pub record Began (t : Tape) (adds : Bool) (grid : Grid) (marks b b' : List ℕ) : Type 0 where
+pub record Began (t : Tape) (change : Change) (grid : Grid) (marks b b' : List ℕ) : Type 0 where
   pub each : (m : ℕ) → m < tile_count grid
       → get_or marks m 0 ≡ when (touched t (grid_in grid false) (tile_numbered grid m)) 1
-  pub shown : Show grid marks (added_heights adds t grid) b'
+  pub shown : Show grid marks (added_heights change t grid) b'
   pub kept : Kept grid marks b b'
 
 -- The places but one.
@@ -67,8 +70,9 @@ pub record ForOthers (m : List ℕ) (p : ℕ) : Type 0 where
   pub faultless : (places_fault (places_of m)).number ≡ 0
 
 -- What the place holds after the call: the part that comes, or nothing.
-abbrev pub comes : Bool → List ℕ → List ℕ
-comes adds s = pick adds (padded s) zeros
+abbrev pub comes : Change → List ℕ → List ℕ
+comes Added s = padded s
+comes Removed s = zeros
 
 -- What is asked of a change: an accepted tape, places that are not at fault, and a picture and a work buffer that no line
 -- refuses.

@@ -24,6 +24,13 @@ use tape::CLAUSE_LIMIT;
 // As many bytes as any flat picture has.
 const PICTURE_LIMIT: usize = 32768;
 
+// What happens to a part of the plate.
+#[derive(Clone, Copy)]
+pub enum Change {
+    Added,
+    Removed,
+}
+
 fn join_place(
     place: &[u8],
     grid: Grid,
@@ -78,8 +85,7 @@ pub fn join_places(
         picture.old picture.new }
     ensures blank_after { blank.new ≡ replicate (size_in false grid) 0 }
 {
-    let mut i = 0;
-    while i < count {
+    for i in 0..count {
         let start = i * PLACE_SIZE;
         join_place(
             &places[start..start + PLACE_SIZE],
@@ -92,13 +98,12 @@ pub fn join_places(
             first,
             second,
         );
-        i += 1;
     }
 }
 
 // The part's own tiles, where it comes.
 fn join_added(
-    adds: bool,
+    change: Change,
     code: &[u64],
     grid: Grid,
     marks: &[u8],
@@ -110,20 +115,20 @@ fn join_added(
 )
     requires { ForJoins code.now grid marks.now blank.old picture.old work.old first.old second.old }
     ensures by_index { (n : ℕ) → Accepted (tape_in n code.now)
-        → Joins grid marks.now (added_heights adds (tape_in n code.now) grid)
+        → Joins grid marks.now (added_heights change (tape_in n code.now) grid)
         picture.old picture.new }
     ensures blank_after { blank.new ≡ replicate (size_in false grid) 0 }
 {
-    if !adds {
-        return;
+    match change {
+        Change::Added => join_tiles(code, grid, marks, blank, picture, work, first, second),
+        Change::Removed => {}
     }
-    join_tiles(code, grid, marks, blank, picture, work, first, second)
 }
 
 // The tiles that the part touches, marked and cleared, and the part itself there if it comes.
 pub fn begin(
     tape: &[u8],
-    adds: bool,
+    change: Change,
     grid: Grid,
     marks: &mut [u8],
     blank: &mut [u8],
@@ -135,7 +140,7 @@ pub fn begin(
 )
     requires draws { Draws false tape.now (grid_in grid false) (length picture.old) }
     requires buffers { Buffers grid marks.old blank.old picture.old work.old words.old first.old second.old }
-    ensures began { Began (read_tape tape.now).tape adds grid marks.new
+    ensures began { Began (read_tape tape.now).tape change grid marks.new
         picture.old picture.new }
     ensures blank_after { blank.new ≡ replicate (size_in false grid) 0 }
 {
@@ -143,7 +148,7 @@ pub fn begin(
     mark_tiles(&words[..n], grid, work, marks);
     clear_tiles(grid, marks, picture);
     join_added(
-        adds,
+        change,
         &words[..n],
         grid,
         marks,
@@ -207,7 +212,7 @@ fn redraw(
     memory: &[u8],
     place: usize,
     tape: &[u8],
-    adds: bool,
+    change: Change,
     grid: Grid,
     blank: &mut [u8],
     picture: &mut [u8],
@@ -215,7 +220,7 @@ fn redraw(
 )
     requires { ForRedraw memory.now place tape.now grid blank.old picture.old work.old }
     ensures { picture.new ≡ redrawn (read_tape tape.now).tape (grid_in grid false)
-        (afresh (stored place (comes adds tape.now) memory.now) (grid_in grid false))
+        (afresh (stored place (comes change tape.now) memory.now) (grid_in grid false))
         picture.old }
 {
     let mut marks = [0u8; TILE_LIMIT];
@@ -224,7 +229,7 @@ fn redraw(
     let mut second = [0u64; CLAUSE_LIMIT];
     begin(
         tape,
-        adds,
+        change,
         grid,
         &mut marks,
         blank,
@@ -260,14 +265,14 @@ pub fn draw_change(
     memory: &[u8],
     place: usize,
     tape: &[u8],
-    adds: bool,
+    change: Change,
     grid: Grid,
     picture: &mut [u8],
     work: &mut [u8],
 )
     requires { ForChange memory.now place tape.now grid picture.old work.old }
     ensures { picture.new ≡ redrawn (read_tape tape.now).tape (grid_in grid false)
-        (afresh (stored place (comes adds tape.now) memory.now) (grid_in grid false))
+        (afresh (stored place (comes change tape.now) memory.now) (grid_in grid false))
         picture.old }
 {
     let size = picture.len();
@@ -276,7 +281,7 @@ pub fn draw_change(
         memory,
         place,
         tape,
-        adds,
+        change,
         grid,
         &mut blank[..size],
         picture,

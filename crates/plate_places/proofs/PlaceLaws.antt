@@ -1,18 +1,24 @@
 -- The loops over bytes and over places, and a place as a part of the memory.
-use mathlib.Core.Path.{◌≡◌, refl, sym, ap, ap₂, ◌∙◌}
-use mathlib.Core.Bool.{Bool, true, false, ◌&&◌}
-use mathlib.Core.List.{List, [], ◌∷◌, ◌++◌, append_assoc}
-use Prim.Native.Nat.{ℕ, suc, ◌+◌, ◌-◌, ◌*◌, ◌<◌, ◌≤◌}
+use mathlib.Core.Path.{◌≡◌, refl, sym, ap, ap₂, subst, ◌∙◌}
+use mathlib.Core.Bool.{Bool, true, false}
+use mathlib.Core.List.{List, [], ◌∷◌, ◌++◌}
+use Prim.Native.Nat.{ℕ, suc, min, ◌+◌, ◌-◌, ◌*◌, ◌<◌, ◌≤◌}
+use native.Mathlib.Decide.{dec_lt}
 use native.Mathlib.Omega.{arith}
 use native.Mathlib.Numerals.{add-one}
 use lib.Dec.{eqb}
-use lib.ListN.{length, get_or, take, drop, set, replicate, length-drop}
-use lib.Seq.{drop-cons, drop-length, take_all, take-suc, drop-drop, length-take-le, set-append_seam}
-use borrow.Author.Tests.{eq-eqb, ne_eqb, eqb-false}
+use lib.ListN.{length, get_or, take, drop, replicate, length-drop}
+use lib.Seq.{take_all, drop-drop, length-take-le}
+use Rattle.std.specs.Bool.{Decides}
+use Rattle.std.specs.List.{All}
+use Rattle.std.proofs.lemmas.Bool.Decides.{same_from_decides, Decides-by_and, Decides-eqb}
+use borrow.Author.Tests.{eqb-false}
 use Rattle.rules.specs.Values.{pick}
 use Rattle.rules.specs.Tapes.{word, read_tape}
-use Rattle.tape_check.specs.Checks.{Answers}
-use Rattle.tape_check.specs.declared.Checked.{Checked}
+use Rattle.faults.specs.declared.Refusal.{Refusal}
+use Rattle.tape_check.specs.Checks.{Accepts, Refuses}
+use Rattle.tape_check.specs.declared.Counts.{Counts}
+use Rattle.answers.specs.Says.{refused}
 use Rattle.answers.specs.declared.Answer.{Answer}
 use Rattle.plate_rules.specs.Plate.{places, place_size, plate_size, places_of, all_zero, tape_in, no_fault}
 use Rattle.plate_rules.specs.Plate.{place_fault, places_fault, stored, padded, zeros}
@@ -20,35 +26,18 @@ use Rattle.plate_rules.proofs.Places.{place_size_lem, places_length, place_part,
 use Rattle.plate_rules.proofs.Refusals.{lowest_at, faultless_more}
 use Rattle.plate_places.specs.Places.{fault_answer, TapeEnd}
 
--- Bytes from the i-th on.
-pub record ZeroSo (b : List ℕ) (i : ℕ) : Type 0 where
-  pub rest : all_zero b ≡ all_zero (drop i b)
-
-module _ (b : List ℕ) (i : ℕ) (z : ZeroSo b i) where
-  here : i < length b → all_zero b ≡ (eqb (get_or b i 0) 0 && all_zero (drop (suc i) b))
-  unfolding all_zero
-  here l = z.rest ∙ ap all_zero (drop-cons b i 0 l)
-
-  pub zero_not : i < length b → (get_or b i 0 ≡ 0 → ⊥) → false ≡ all_zero b
-  zero_not l n = sym (here l ∙ ap (λ v. v && all_zero (drop (suc i) b)) (ne_eqb (get_or b i 0) 0 n))
-
-  pub zero_next : i < length b → get_or b i 0 ≡ 0 → ZeroSo b (i + 1)
-  zero_next l e =
-      record {
-        rest = here l ∙ ap (λ v. v && all_zero (drop (suc i) b)) (eq-eqb (get_or b i 0) 0 e)
-            ∙ ap (λ j. all_zero (drop j b)) (sym (add-one i));
-      }
-
-  pub zero_all : i ≡ length b → true ≡ all_zero b
-  unfolding all_zero
-  zero_all e = sym (z.rest ∙ ap (λ j. all_zero (drop j b)) e ∙ ap all_zero (drop-length b))
+-- A test of every byte tells whether all are 0.
+pub zero_told : (b : List ℕ) (r : Bool) → Decides r (All (λ x. x ≡ 0) b) → r ≡ all_zero b
+unfolding all_zero
+zero_told b r h =
+    same_from_decides r (all_zero b) h (Decides-by_and (λ x. eqb x 0) (λ x. x ≡ 0) all_zero (λ x. Decides-eqb x 0) refl (λ _ _. refl) b)
 
 -- The tape of a place.
-pub tape_within : (b : List ℕ) (n : ℕ) → n ≡ 8 + 10 * word 4 b → n ≤ length b → TapeEnd b n
+tape_within : (b : List ℕ) (n : ℕ) → n ≡ 8 + 10 * word 4 b → n ≤ length b → TapeEnd b n
 unfolding tape_in
 tape_within b n e l = record { within = l; bytes = ap (λ i. take i b) e }
 
-pub tape_past : (b : List ℕ) (n : ℕ) → n ≡ 8 + 10 * word 4 b → length b < n → TapeEnd b (length b)
+tape_past : (b : List ℕ) (n : ℕ) → n ≡ 8 + 10 * word 4 b → length b < n → TapeEnd b (length b)
 unfolding tape_in
 tape_past b n e l =
     record {
@@ -56,21 +45,33 @@ tape_past b n e l =
       bytes = take_all (length b) b (omega arith) ∙ sym (take_all (8 + 10 * word 4 b) b (omega arith));
     }
 
+pub tape_least : (b : List ℕ) (n m : ℕ) → n ≡ 8 + 10 * word 4 b → m ≡ min n (length b) → TapeEnd b m
+tape_least b n m e h = elim (dec_lt (length b) n) [
+  | yes l ↦ (let k : m ≡ length b = omega arith in subst (TapeEnd b) (sym k) (tape_past b n e l))
+  | no l ↦ (let k : m ≡ n = omega arith in subst (TapeEnd b) (sym k) (tape_within b n e (omega arith)))
+]
+
 -- What a check of one place comes to.
 pub place_empty : (b : List ℕ) → true ≡ all_zero b → fault_answer no_fault ≡ fault_answer (place_fault b)
 unfolding place_fault
 place_empty b e = rw (sym e)
 
-pub place_read : (b : List ℕ) (n : ℕ) {c : Checked} {r : Answer} → false ≡ all_zero b → TapeEnd b n
-    → Answers c (read_tape (take n b)) → r ≡ record { number = c.number; place = c.place; count = 0 }
-    → r ≡ fault_answer (place_fault b)
-unfolding place_fault
-place_read b n {c} z t a e =
-    let f = ap read_tape t.bytes in
-    e
-    ∙ ap₂ (λ u v. record { number = u; place = v; count = 0 }) (a.number ∙ ap (λ g. g.number) f)
-    (a.place ∙ ap (λ g. g.place) f)
-    ∙ rw (sym z)
+module _ (b : List ℕ) (n : ℕ) (z : false ≡ all_zero b) (t : TapeEnd b n) where
+  pub place_refused : {r : Refusal} → Refuses r (read_tape (take n b)) → refused r ≡ fault_answer (place_fault b)
+  unfolding place_fault
+  place_refused a =
+      let f = ap read_tape t.bytes in
+      ap₂ (λ u v. record { number = u; place = v; count = 0 }) (a.number ∙ ap (λ g. g.number) f)
+      (a.place ∙ ap (λ g. g.place) f)
+      ∙ rw (sym z)
+
+  pub place_accepted : {c : Counts} → Accepts c (read_tape (take n b)) → fault_answer no_fault ≡ fault_answer (place_fault b)
+  unfolding place_fault
+  place_accepted a =
+      let f = ap read_tape t.bytes in
+      ap₂ (λ u v. record { number = u; place = v; count = 0 }) (sym a.number ∙ ap (λ g. g.number) f)
+      (sym a.place ∙ ap (λ g. g.place) f)
+      ∙ rw (sym z)
 
 -- The places from the lowest on: those before place i are not at fault.
 pub record Faultless (m : List ℕ) (i : ℕ) : Type 0 where
@@ -116,23 +117,7 @@ no_place_at_fault m f =
     let all = take_all places (places_of m) (omega (arith, places_length places m)) in
     ap fault_answer (sym (clause_none (places_of m) (ap (λ ps. (places_fault ps).number) (sym all) ∙ f.none)))
 
--- Bytes copied to the front.
-pub copy_more : (s o : List ℕ) (i : ℕ) → i < length s → i < length o
-    → set (take i s ++ drop i o) i (get_or s i 0) ≡ take (i + 1) s ++ drop (i + 1) o
-copy_more s o i l m =
-    let v = get_or s i 0 in
-    let e = length-take-le i s (omega arith) in
-    ap (λ r. set (take i s ++ r) i v) (drop-cons o i 0 m)
-    ∙ ap (λ j. set (take i s ++ (get_or o i 0 ∷ drop (suc i) o)) j v) (sym e)
-    ∙ set-append_seam (take i s) (get_or o i 0) (drop (suc i) o) v
-    ∙ sym (append_assoc (take i s) (v ∷ []) (drop (suc i) o))
-    ∙ ap (λ r. r ++ drop (suc i) o) (sym (take-suc s i 0 l))
-    ∙ ap (λ j. take j s ++ drop j o) (sym (add-one i))
-
-pub copy_done : (s o b : List ℕ) (i : ℕ) → b ≡ take i s ++ drop i o → i ≡ length s → b ≡ s ++ drop (length s) o
-copy_done s o b i e h =
-    e ∙ ap (λ j. take j s ++ drop j o) h ∙ ap (λ r. r ++ drop (length s) o) (take_all (length s) s (omega arith))
-
+-- A place cleared, and the bytes copied to its front.
 pub fill_padded : (s b o : List ℕ) (n : ℕ) → b ≡ replicate n 0 → n ≡ place_size → o ≡ s ++ drop (length s) b
     → o ≡ padded s
 unfolding padded

@@ -4,9 +4,10 @@
 ghost use Rattle.std.specs.Prelude.{◌≡◌, ◌++◌, ◌<◌, ◌≤◌, length, drop};
 ghost use Rattle.plate_rules.specs.Plate.{places, place_size, plate_size, places_of, all_zero, place_fault, places_fault};
 ghost use Rattle.plate_rules.specs.Plate.{stored, padded, zeros};
+ghost use Rattle.answers.specs.Says.{answer_in};
 ghost use Rattle.plate_places.specs.Places.{fault_answer, TapeEnd};
 
-use answers::{Answer, refused};
+use faults::Refusal;
 use picture::bits::clear;
 use tape::bytes::word_at;
 use tape::{CLAUSE_BYTES, HEAD_BYTES};
@@ -20,14 +21,7 @@ pub const PLACE_SIZE: usize = 65536;
 pub fn all_zero(bytes: &[u8]) -> bool
     ensures { result ≡ all_zero bytes.now }
 {
-    let mut i = 0;
-    while i < bytes.len() {
-        if bytes[i] != 0 {
-            return false;
-        }
-        i += 1;
-    }
-    true
+    bytes.iter().all(|b| *b == 0)
 }
 
 // Where the tape of a place ends: what stands behind it is free.
@@ -36,50 +30,31 @@ pub fn tape_end(place: &[u8]) -> usize
     ensures { TapeEnd place.now result }
 {
     let end = HEAD_BYTES + CLAUSE_BYTES * word_at(place, 4) as usize;
-    if end <= place.len() {
-        return end;
-    }
-    place.len()
+    end.min(place.len())
 }
 
-pub fn check_place(place: &[u8]) -> Answer
+pub fn check_place(place: &[u8]) -> Result<(), Refusal>
     requires { length place.now ≡ place_size }
-    ensures { result ≡ fault_answer (place_fault place.now) }
+    ensures { answer_in result ≡ fault_answer (place_fault place.now) }
 {
     if all_zero(place) {
-        return refused(0, 0);
+        return Ok(());
     }
     let end = tape_end(place);
-    let checked = check_tape(&place[..end]);
-    refused(checked.number, checked.place)
+    check_tape(&place[..end])?;
+    Ok(())
 }
 
 // The lowest place that is neither empty nor begins with an accepted tape.
-pub fn check_places(memory: &[u8]) -> Answer
+pub fn check_places(memory: &[u8]) -> Result<(), Refusal>
     requires { length memory.now ≡ plate_size }
-    ensures { result ≡ fault_answer (places_fault (places_of memory.now)) }
+    ensures { answer_in result ≡ fault_answer (places_fault (places_of memory.now)) }
 {
-    let mut i = 0;
-    while i < PLACES {
+    for i in 0..PLACES {
         let start = i * PLACE_SIZE;
-        let fault = check_place(&memory[start..start + PLACE_SIZE]);
-        if fault.number != 0 {
-            return fault;
-        }
-        i += 1;
+        check_place(&memory[start..start + PLACE_SIZE])?;
     }
-    refused(0, 0)
-}
-
-fn copy_front(out: &mut [u8], bytes: &[u8])
-    requires { length bytes.now ≤ length out.old }
-    ensures { out.new ≡ bytes.now ++ drop (length bytes.now) out.old }
-{
-    let mut i = 0;
-    while i < bytes.len() {
-        out[i] = bytes[i];
-        i += 1;
-    }
+    Ok(())
 }
 
 fn fill_place(place: &mut [u8], tape: &[u8])
@@ -88,7 +63,7 @@ fn fill_place(place: &mut [u8], tape: &[u8])
     ensures { place.new ≡ padded tape.now }
 {
     clear(place);
-    copy_front(place, tape)
+    place[..tape.len()].copy_from_slice(tape)
 }
 
 pub fn store_tape(memory: &mut [u8], place: usize, tape: &[u8])

@@ -68,9 +68,7 @@ pub fn join_tiles(
         picture.old picture.new }
     ensures blank_after { blank.new ≡ replicate (size_in false grid) 0 }
 {
-    let end = tile_count(grid);
-    let mut m = 0;
-    while m < end {
+    for m in 0..tile_count(grid) {
         join_turn(
             code,
             grid,
@@ -82,6 +80,5 @@ pub fn join_tiles(
             first,
             second,
         );
-        m += 1;
     }
 }

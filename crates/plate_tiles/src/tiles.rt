@@ -11,7 +11,7 @@ ghost use Rattle.plate_tiles.specs.Tiles.{tile_limit, Sized, across, tile_count,
 ghost use Rattle.plate_tiles.specs.Tiles.{ForRange, ForMarks, MarkedBy, Turn, Marked, TilesSet};
 
 use code::run::run_ranges;
-use patches::{clear_part, join_part};
+use patches::{Part, clear_part, join_part};
 use picture::grid::Grid;
 use walk::cell::{Cell, cell_at, flat_bounds};
 
@@ -47,24 +47,30 @@ fn touches(code: &[u64], grid: Grid, cell: Cell, work: &mut [u8]) -> u8
     ensures { (n : ℕ) → Accepted (tape_in n code.now)
         → result ≡ when (touched (tape_in n code.now) (grid_in grid false) (region_in cell)) 1 }
 {
-    let range = run_ranges(code, flat_bounds(grid, cell), work);
-    if range.low < 0 {
-        return 1;
-    }
-    0
+    (run_ranges(code, flat_bounds(grid, cell), work).low < 0) as u8
 }
 
 pub fn mark_tiles(code: &[u64], grid: Grid, work: &mut [u8], marks: &mut [u8])
     requires { ForMarks code.now grid work.old marks.old }
     ensures { MarkedBy code.now grid (tile_count grid) marks.new }
 {
-    let end = tile_count(grid);
-    let mut m = 0;
-    while m < end {
-        let cell = tile(grid, m);
-        let mark = touches(code, grid, cell, work);
-        marks[m as usize] = mark;
-        m += 1;
+    for m in 0..tile_count(grid) {
+        marks[m as usize] = touches(code, grid, tile(grid, m), work);
+    }
+}
+
+fn part_of(cell: Cell) -> Part
+    requires { cell.y ≤ cell.yend }
+    ensures x { result.x ≡ cell.x }
+    ensures y { result.y ≡ cell.y }
+    ensures xend { result.xend ≡ cell.xend }
+    ensures yend { result.yend ≡ cell.yend }
+{
+    Part {
+        x: cell.x as usize,
+        y: cell.y as usize,
+        xend: cell.xend as usize,
+        yend: cell.yend as usize,
     }
 }
 
@@ -73,14 +79,7 @@ pub fn clear_cell(picture: &mut [u8], grid: Grid, cell: Cell)
     ensures { PartSet grid.width cell.x cell.xend cell.y cell.yend nothing
         picture.old picture.new }
 {
-    clear_part(
-        picture,
-        grid.width as usize,
-        cell.x as usize,
-        cell.y as usize,
-        cell.xend as usize,
-        cell.yend as usize,
-    )
+    clear_part(picture, grid.width as usize, part_of(cell))
 }
 
 pub fn join_cell(other: &[u8], picture: &mut [u8], grid: Grid, cell: Cell)
@@ -89,15 +88,7 @@ pub fn join_cell(other: &[u8], picture: &mut [u8], grid: Grid, cell: Cell)
     ensures { PartSet grid.width cell.x cell.xend cell.y cell.yend
         (joined picture.old other.now) picture.old picture.new }
 {
-    join_part(
-        other,
-        picture,
-        grid.width as usize,
-        cell.x as usize,
-        cell.y as usize,
-        cell.xend as usize,
-        cell.yend as usize,
-    )
+    join_part(other, picture, grid.width as usize, part_of(cell))
 }
 
 fn clear_turn(grid: Grid, m: u32, mark: u8, picture: &mut [u8])
@@ -117,10 +108,7 @@ pub fn clear_tiles(grid: Grid, marks: &[u8], picture: &mut [u8])
     ensures { TilesSet grid (Marked marks.now (tile_count grid)) nothing
         picture.old picture.new }
 {
-    let end = tile_count(grid);
-    let mut m = 0;
-    while m < end {
+    for m in 0..tile_count(grid) {
         clear_turn(grid, m, marks[m as usize], picture);
-        m += 1;
     }
 }

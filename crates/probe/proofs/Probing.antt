@@ -3,28 +3,34 @@ use Rattle.std.proofs.Common.{◌≡◌, ℕ, zero, suc, Bool, true, false, ◌&
 use mathlib.Core.Bool.{false≢true}
 use lib.Signed.{lt_z}
 use lib.Ieee.{Float}
-use Rattle.rules.specs.Values.{first_of, Sample}
-use Rattle.rules.specs.Tapes.{read_tape, place_of, value_at}
+use Rattle.rules.specs.Values.{Sample}
+use Rattle.rules.specs.Tapes.{read_tape, value_at}
 use Rattle.rules.specs.Probes.{Point, coordinate_ok, point_fault, rounded_point, probe_lines, probe_fault, probed_value}
 use Rattle.rules.specs.Probes.{rounded_down, stored_float}
-use Rattle.rules.proofs.Lines.{first_none}
-use Rattle.rules.proofs.Places.{tape_placed}
+use Rattle.rules.proofs.Lines.{first_here, first_none}
 use Rattle.rules.proofs.Probes.{rounded_value}
 use Rattle.code.specs.Words.{Runnable}
 use Rattle.code.specs.Runs.{SampleOk, Evaluated}
 use Rattle.code.specs.Unpacking.{Unpacked}
 use Rattle.code.proofs.WordTapes.{words_runnable, unpacked_tape, unpacked_accepted}
 use Rattle.answers.specs.declared.Answer.{Answer}
-use Rattle.answers.specs.Says.{Answered}
+use Rattle.answers.specs.Says.{Answered, answer_in}
 use Rattle.answers.proofs.Ends.{answer, uncounted, tape_place}
 use Rattle.promises.specs.declared.Point as declared-point
 use Rattle.promises.specs.declared.Probe.{Probe}
 use Rattle.promises.specs.declared.Probe.TheVariants.{Inside, Outside, Surface, Refused}
 use Rattle.promises.specs.Sides.{point_in}
 use Rattle.promises.specs.Sides.{side_of}
-use Rattle.promises.proofs.Probes.{coordinates, clear}
-use Rattle.probe.specs.declared.Finding.{Finding}
-use Rattle.probe.specs.Answers.{Found}
+use Rattle.promises.proofs.Probes.{coordinates}
+use Rattle.std.specs.Prelude.{Result, Ok, Err}
+use Rattle.std.specs.Result.{result_unwrap_or}
+use Rattle.faults.specs.declared.Fault.{Fault}
+use Rattle.faults.specs.declared.Refusal.{Refusal}
+use Rattle.faults.specs.Numbers.{number_of}
+use Rattle.faults.proofs.NumberLaws.{some_number}
+use Rattle.tape_check.specs.Checks.{Accepts, Refuses}
+use Rattle.tape_check.specs.declared.Counts.{Counts}
+use Rattle.probe.specs.Answers.{Found, probe_given}
 
 -- Line 20, by its test.
 pub point_taken : (p : Point) {t : Bool}
@@ -51,12 +57,6 @@ rounded_sample p e h =
       z = rounded_value p.z k.z;
     })
 
--- The lines as the code has them.
-pub fault_is : (s : List ℕ) (p : Point) {n a b : ℕ} → n ≡ first_of a b → a ≡ (read_tape s).number → b ≡ point_fault p
-    → n ≡ probe_fault s p
-fault_is s p {b = b} e h k =
-    e ∙ ap (λ m. first_of m b) h ∙ ap (first_of (read_tape s).number) (k ∙ sym (first_none (point_fault p)))
-
 -- The words of an unpacked tape, run.
 module _ {s ws ws' : List ℕ} {k : ℕ} (u : Unpacked s ws ws' k) (e : (read_tape s).number ≡ 0) where
   pub runnable : Runnable (take k ws')
@@ -82,25 +82,41 @@ on_surface (pos (suc a)) h k = absurd (omega (arith, ltb-false 0 (suc a) k))
 on_surface (negsuc a) h k = absurd (true≢false h)
 
 -- The answer.
-pub refused : (s : List ℕ) (p : declared-point.Point) {n q : ℕ} → n ≡ probe_fault s (point_in p) → (n ≡ 0 → ⊥)
-    → q ≡ (read_tape s).place → Found s p (record { number = n; place = q; probe = Refused })
-refused s p e h k =
-    let z = ne_eqb (probe_fault s (point_in p)) 0 (λ y. h (e ∙ y)) in
+refused : (s : List ℕ) (p : declared-point.Point) (r : Refusal) → number_of r.fault ≡ probe_fault s (point_in p)
+    → r.place ≡ (read_tape s).place → Found s p (Err r)
+refused s p r e k =
+    let z = ne_eqb (probe_fault s (point_in p)) 0 (λ y. some_number r.fault (e ∙ y)) in
     record { number = e; place = k; side = rw z }
 
-pub answered : (s : List ℕ) (p : declared-point.Point) {r : Probe} → probe_fault s (point_in p) ≡ 0
-    → r ≡ side_of (probed_value s (point_in p)) → Found s p (record { number = 0; place = 0; probe = r })
-answered s p e h =
-    let y = (clear s (point_in p) e).read in
-    let z = eq-eqb (probe_fault s (point_in p)) 0 e in
-    record {
-      number = sym e;
-      place = sym ((tape_placed s).placed ∙ ap (λ m. place_of m (read_tape s).place) y);
-      side = h ∙ rw z;
-    }
+pub tape_refused : (s : List ℕ) (p : declared-point.Point) (r : Refusal) → Refuses r (read_tape s) → Found s p (Err r)
+tape_refused s p r e =
+    let k : (read_tape s).number ≡ 0 → ⊥ = λ z. some_number r.fault (e.number ∙ z) in
+    refused s p r (e.number ∙ sym (first_here (read_tape s).number _ k)) e.place
+
+module _ (s : List ℕ) (p : declared-point.Point) {c : Counts} (a : Accepts c (read_tape s)) where
+  -- The tape is accepted, so line 20 decides.
+  twenty : probe_fault s (point_in p) ≡ point_fault (point_in p)
+  twenty = rw a.number (first_none (point_fault (point_in p)))
+
+  pub point_at_fault : (f : Fault) → number_of f ≡ point_fault (point_in p)
+      → Found s p (Err (record { fault = f; place = 0 }))
+  point_at_fault f e = refused s p (record { fault = f; place = 0 }) (e ∙ sym twenty) (sym a.place)
+
+  pub none : 0 ≡ point_fault (point_in p) → probe_fault s (point_in p) ≡ 0
+  none e = twenty ∙ sym e
+
+  pub answered : {r : Probe} → 0 ≡ point_fault (point_in p) → r ≡ side_of (probed_value s (point_in p)) → Found s p (Ok r)
+  answered e h =
+      let z = eq-eqb (probe_fault s (point_in p)) 0 (none e) in
+      record { number = sym (none e); place = sym a.place; side = h ∙ rw z }
 
 -- The place of a tape that is accepted is 0, and so the place of line 20.
-pub probe_answer : {s : List ℕ} {p : declared-point.Point} {f : Finding} {r : Answer} → Found s p f
-    → r ≡ answer f.number f.place 0 → Answered (probe_fault s (point_in p)) (read_tape s).place 0 r
+pub probe_answer : {s : List ℕ} {p : declared-point.Point} {f : Result Probe Refusal} {r : Answer} → Found s p f
+    → r ≡ answer (answer_in f).number (answer_in f).place 0 → Answered (probe_fault s (point_in p)) (read_tape s).place 0 r
 probe_answer {s} {p} f e =
     uncounted e f.number (f.place ∙ tape_place s (probe_lines s (point_in p)) refl)
+
+-- The side that is returned.
+pub side_given : (p : Result Probe Refusal) → result_unwrap_or p Refused ≡ probe_given p
+side_given (Ok x) = refl
+side_given (Err r) = refl

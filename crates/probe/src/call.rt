@@ -3,29 +3,26 @@ ghost use Rattle.promises.specs.Says.{ProbeSays, SidedSays};
 
 use crate::probe_at;
 use crate::side::{side_number, side_value};
-use answers::refused;
-use promises::{Point, Probed, Sided};
+use answers::Answer;
+use promises::{Point, Probe, Probed, Sided};
 
 pub fn probe(tape: &[u8], point: Point) -> Probed
     ensures { ProbeSays tape.now point result }
 {
-    let f = probe_at(tape, point);
-    let side = f.probe;
+    let found = probe_at(tape, point);
     Probed {
-        answer: refused(f.number, f.place),
-        probe: side,
+        answer: Answer::of(found.map(|_| 0)),
+        probe: found.unwrap_or(Probe::Refused),
     }
 }
 
 pub fn probe_side(tape: &[u8], point: Point) -> Sided
     ensures { SidedSays tape.now point result }
 {
-    let p = probe(tape, point);
-    let answer = p.answer;
-    let side = p.probe;
+    let probed = probe(tape, point);
     Sided {
-        answer: answer,
-        side: side_number(side),
-        value: side_value(side),
+        answer: probed.answer,
+        side: side_number(probed.probe),
+        value: side_value(probed.probe),
     }
 }

@@ -6,7 +6,6 @@ mod point;
 mod side;
 
 ghost use Rattle.std.specs.Prelude.{◌≡◌};
-ghost use Rattle.rules.specs.Values.{first_of};
 ghost use Rattle.rules.specs.Tapes.{read_tape, value_at};
 ghost use Rattle.fixed.specs.Shapes.{sample_in};
 ghost use Rattle.code.specs.Runs.{SampleOk};
@@ -15,26 +14,13 @@ ghost use Rattle.probe.specs.Answers.{Found};
 
 use code::run::run_values;
 use code::unpack::unpack_words;
+use faults::Refusal;
 use fixed::clause::Sample;
-use point::{point_fault, rounded_point};
+use point::{check_point, rounded_point};
 use promises::{Point, Probe};
 use side::side_of;
 use tape::{CLAUSE_LIMIT, SLOT_LIMIT};
 use tape_check::check_tape;
-
-// What a probe answers: 0 and the side, or the number of the refusal and its clause.
-#[derive(Clone, Copy)]
-pub struct Finding {
-    pub number: u8,
-    pub place: u32,
-    pub probe: Probe,
-}
-
-fn first_of(a: u8, b: u8) -> u8
-    ensures { result ≡ first_of a b }
-{
-    if a != 0 { a } else { b }
-}
 
 // The words are lent, so that a caller has as many as its tapes may have clauses.
 fn run_in(tape: &[u8], s: Sample, words: &mut [u64]) -> i32
@@ -56,23 +42,11 @@ fn run_tape(tape: &[u8], s: Sample) -> i32
     run_in(tape, s, &mut words)
 }
 
-pub fn probe_at(tape: &[u8], point: Point) -> Finding
+pub fn probe_at(tape: &[u8], point: Point) -> Result<Probe, Refusal>
     ensures { Found tape.now point result }
 {
-    let checked = check_tape(tape);
-    let place = checked.place;
-    let number = first_of(checked.number, point_fault(point));
-    if number != 0 {
-        return Finding {
-            number: number,
-            place: place,
-            probe: Probe::Refused,
-        };
-    }
+    check_tape(tape)?;
+    check_point(point)?;
     let value = run_tape(tape, rounded_point(point));
-    Finding {
-        number: 0,
-        place: 0,
-        probe: side_of(value),
-    }
+    Ok(side_of(value))
 }

@@ -1,9 +1,11 @@
 // A point under the cursor: which coordinates are taken, and the units that they are rounded down to.
 ghost use Rattle.std.specs.Prelude.{◌≡◌, true};
 ghost use Rattle.rules.specs.Probes.{coordinate_ok, point_fault, rounded_down, rounded_point};
+ghost use Rattle.faults.specs.Numbers.{fault_of};
 ghost use Rattle.fixed.specs.Shapes.{sample_in};
 ghost use Rattle.promises.specs.Sides.{point_in};
 
+use faults::Fault;
 use fixed::clause::Sample;
 use promises::Point;
 use std::num::truncating_f64_to_i64;
@@ -16,13 +18,13 @@ fn coordinate_ok(c: f64) -> bool
 }
 
 // Line 20, of a point.
-pub fn point_fault(p: Point) -> u8
-    ensures { result ≡ point_fault (point_in p) }
+pub fn check_point(p: Point) -> Result<(), Fault>
+    ensures { fault_of result ≡ point_fault (point_in p) }
 {
     if coordinate_ok(p.x) & (coordinate_ok(p.y) & coordinate_ok(p.z)) {
-        return 0;
+        return Ok(());
     }
-    20
+    Err(Fault::WrongCoordinate)
 }
 
 // The product is exact, also of the least f64 that there are. Its whole part is the unit, or one above it where the

@@ -20,7 +20,13 @@ use Rattle.picture.specs.Shapes.{grid_in}
 use Rattle.picture.specs.declared.grid.Grid.{Grid}
 use Rattle.program.specs.declared.Drawn.{Drawn}
 use Rattle.program.specs.declared.Said.{Said}
-use Rattle.program.specs.Says.{starting_with, file_if, layer_fault, LayerSays, FileSays, InputSays, OutputSays}
+use Rattle.faults.specs.declared.Fault.{Fault}
+use Rattle.faults.specs.declared.Fault.TheVariants.{ProgramInput, SolidTooWide}
+use Rattle.faults.specs.declared.Refusal.{Refusal}
+use Rattle.faults.specs.Numbers.{number_of}
+use Rattle.faults.proofs.NumberLaws.{some_number}
+use Rattle.std.proofs.Common.{Result, Err}
+use Rattle.program.specs.Says.{told, length_of, starting_with, file_if, layer_fault, LayerSays, FileSays, InputSays, OutputSays}
 use Rattle.program.specs.Says.{ProgramSays}
 
 -- A record that passes is long enough; the tape is what stands behind it.
@@ -32,22 +38,20 @@ pub tape_behind : (s : List ℕ) → take (length s - record_length) (drop recor
 tape_behind s = take_all (length s - record_length) (drop record_length s) (omega (arith, length-drop record_length s))
 
 -- 15 and 16.
-abbrev refusal : ℕ → Drawn
-refusal n = record { answer = record { number = n; place = 0; count = 0 }; length = 0 }
+refuses : (s o : List ℕ) (f : Fault) → (leb 5 (number_of f) && leb (number_of f) 9) ≡ false
+    → program_fault s ≡ number_of f → InputSays s o o (Err (record { fault = f; place = 0 }))
+refuses s o f p e =
+    let z = ne_eqb (number_of f) 0 (some_number f) in
+    rw e (record { answer = record { number = refl; place = rw p; count = rw z }; size = rw z; out = rw z })
 
-refuses : (s o : List ℕ) (n : ℕ) (r : Drawn) → eqb n 0 ≡ false → (leb 5 n && leb n 9) ≡ false → program_fault s ≡ n
-    → r ≡ refusal n → InputSays s o o r
-refuses s o n r z p e q =
-    rw (e, q) (record { answer = record { number = refl; place = rw p; count = rw z }; size = rw z; out = rw z })
-
-pub no_record : (s o : List ℕ) (r : Drawn) → record_ok s ≡ false → r ≡ refusal 15 → InputSays s o o r
+pub no_record : (s o : List ℕ) → record_ok s ≡ false → InputSays s o o (Err (record { fault = ProgramInput; place = 0 }))
 unfolding program_fault
-no_record s o r e q = refuses s o 15 r refl refl (rw e) q
+no_record s o e = refuses s o ProgramInput refl (rw e)
 
-pub solid_too_large : (s o : List ℕ) (r : Drawn) → record_ok s ≡ true → too_large (grid_record s) ≡ true → r ≡ refusal 16
-    → InputSays s o o r
+pub solid_too_large : (s o : List ℕ) → record_ok s ≡ true → too_large (grid_record s) ≡ true
+    → InputSays s o o (Err (record { fault = SolidTooWide; place = 0 }))
 unfolding program_fault
-solid_too_large s o r e h q = refuses s o 16 r refl refl (rw (e, h)) q
+solid_too_large s o e h = refuses s o SolidTooWide refl (rw (e, h))
 
 -- Past these two, as drawing.
 passed : (s : List ℕ) → record_ok s ≡ true → too_large (grid_record s) ≡ false
@@ -55,7 +59,7 @@ passed : (s : List ℕ) → record_ok s ≡ true → too_large (grid_record s) �
 unfolding program_fault
 passed s e h = rw (e, h)
 
-drawing : (s o o' : List ℕ) (t : Bool) (d : Grid) (r : Drawn) → grid_in d t ≡ grid_record s → t ≡ D.solid (grid_record s)
+drawing : (s o o' : List ℕ) (t : Bool) (d : Grid) (r : Result Drawn Refusal) → grid_in d t ≡ grid_record s → t ≡ D.solid (grid_record s)
     → record_ok s ≡ true → too_large (grid_record s) ≡ false → FileSays t (tape_after s) d o o' r → InputSays s o o' r
 drawing s o o' t d r e k a b f =
     let tape = tape_after s in
@@ -79,7 +83,7 @@ without_depth d h = let z : 0 ≡ d.depth = omega arith in
       step_z = g.step_z;
     }) z
 
-module _ (s o o' : List ℕ) (d : Grid) (r : Drawn) (e : grid_in d true ≡ grid_record s) (a : record_ok s ≡ true)
+module _ (s o o' : List ℕ) (d : Grid) (r : Result Drawn Refusal) (e : grid_in d true ≡ grid_record s) (a : record_ok s ≡ true)
     (b : too_large (grid_in d true) ≡ false) where
   small : too_large (grid_record s) ≡ false
   small = ap too_large (sym e) ∙ b
@@ -125,22 +129,22 @@ output_done : (s : List ℕ) → eqb (program_fault s) 0 ≡ true
 unfolding program_of
 output_done s k = rw k
 
-place_is : (s o m : List ℕ) (u : Drawn) → InputSays s o m u → u.answer.place ≡ program_place s
+place_is : (s o m : List ℕ) (u : Result Drawn Refusal) → InputSays s o m u → (told u).place ≡ program_place s
 unfolding program_place
 place_is s o m u f = f.answer.place
 
-module _ (s o m : List ℕ) (u : Drawn) (f : InputSays s o m u) where
-  pub said_refused : (o' l : List ℕ) (r : Said) → (u.answer.number ≡ 0 → ⊥)
-      → Appends m 0 (refused_line u.answer.number u.answer.place) o' r.length → r.answer ≡ u.answer
+module _ (s o m : List ℕ) (u : Result Drawn Refusal) (f : InputSays s o m u) where
+  pub said_refused : (o' l : List ℕ) (r : Said) → ((told u).number ≡ 0 → ⊥)
+      → Appends m 0 (refused_line (told u).number (told u).place) o' r.length → r.answer ≡ (told u)
       → r.line ≡ 0 → ProgramSays s o o' l l r
   said_refused o' l r h p e el =
-      let n = u.answer.number in
+      let n = (told u).number in
       let k = ne_eqb (program_fault s) 0 (λ z. h (f.answer.number ∙ z)) in
       let q = place_is s o m u f in
       let same : m ≡ o = f.out ∙ rw k refl in
-      let line : refused_line n u.answer.place ≡ refused_line (program_fault s) (program_place s)
+      let line : refused_line n (told u).place ≡ refused_line (program_fault s) (program_place s)
       = ap₂ refused_line f.answer.number q in
-      let size : r.length ≡ length (refused_line n u.answer.place) = p.next ∙ zero-add _ in
+      let size : r.length ≡ length (refused_line n (told u).place) = p.next ∙ zero-add _ in
       subst (λ x. OutputSays x o o' l l r) (sym (output_refused s k))
       (record {
         number = ap (λ a. a.number) e ∙ f.answer.number;
@@ -152,8 +156,8 @@ module _ (s o m : List ℕ) (u : Drawn) (f : InputSays s o m u) where
         second = refl;
       })
 
-  pub said_done : (l l' : List ℕ) (r : Said) → u.answer.number ≡ 0
-      → Appends l 0 (count_line u.answer.count) l' r.line → r.answer ≡ u.answer → r.length ≡ u.length
+  pub said_done : (l l' : List ℕ) (r : Said) → (told u).number ≡ 0
+      → Appends l 0 (count_line (told u).count) l' r.line → r.answer ≡ (told u) → r.length ≡ length_of u
       → ProgramSays s o m l l' r
   said_done l l' r h p e el =
       let k = eq-eqb (program_fault s) 0 (sym f.answer.number ∙ h) in
@@ -161,8 +165,8 @@ module _ (s o m : List ℕ) (u : Drawn) (f : InputSays s o m u) where
       let g = grid_record s in
       let d = D.walked t.tape g in
       let file : file_if (program_fault s) t g ≡ file_of g d.heights = rw k refl in
-      let count : u.answer.count ≡ d.clauses = f.answer.count ∙ rw k refl in
-      let size : r.line ≡ length (count_line u.answer.count) = p.next ∙ zero-add _ in
+      let count : (told u).count ≡ d.clauses = f.answer.count ∙ rw k refl in
+      let size : r.line ≡ length (count_line (told u).count) = p.next ∙ zero-add _ in
       subst (λ x. OutputSays x o m l l' r) (sym (output_done s k))
       (record {
         number = ap (λ a. a.number) e ∙ h;

@@ -23,7 +23,9 @@ use Rattle.answers.specs.Lines.{length_fault, draw_lines, tile_fault}
 use Rattle.answers.specs.Says.{Answered, written}
 use Rattle.promises.specs.Says as Calls
 use Rattle.program.specs.declared.Drawn.{Drawn}
-use Rattle.program.specs.Says.{PictureFits, layer_fault, FileSays}
+use Rattle.faults.specs.declared.Refusal.{Refusal}
+use Rattle.std.proofs.Common.{Result}
+use Rattle.program.specs.Says.{told, length_of, PictureFits, layer_fault, FileSays}
 
 -- The sides of a grid that is not refused.
 pub sides : (t : Bool) (d : Grid) → D.grid_fault t (grid_in d t) ≡ 0 → Sides d.width d.height
@@ -118,13 +120,13 @@ module _ {t : Bool} {s : List ℕ} {d : Grid} {n : ℕ} {z p w w' : List ℕ} {a
   same = tile_fault_lem t s d (length (take n z)) (length w) f.lent
 
   -- The answer is the drawing's own, number, place and count.
-  told : let g = grid_in d t in
+  told_lem : let g = grid_in d t in
       Answered (layer_fault t s g) (read_tape s).place (D.walked (read_tape s).tape g).clauses a
-  told = rw same at f.says.answer
+  told_lem = rw same at f.says.answer
 
   taken : a.number ≡ 0 → D.grid_fault t (grid_in d t) ≡ 0
   taken e =
-      each_line ((read_tape s).number ∷ (D.grid_fault t (grid_in d t) ∷ [])) (sym told.number ∙ e) 1
+      each_line ((read_tape s).number ∷ (D.grid_fault t (grid_in d t) ∷ [])) (sym told_lem.number ∙ e) 1
 
   pub sided : a.number ≡ 0 → Sides d.width d.height
   sided e = sides t d (taken e)
@@ -132,33 +134,33 @@ module _ {t : Bool} {s : List ℕ} {d : Grid} {n : ℕ} {z p w w' : List ℕ} {a
   pub pixels : a.number ≡ 0 → n ≡ picture_size t (grid_in d t)
   pixels e = f.size (taken e)
 
-  pub layer_refused : (o : List ℕ) (r : Drawn) → (a.number ≡ 0 → ⊥) → r.answer ≡ a → r.length ≡ 0
+  pub layer_refused : (o : List ℕ) (r : Result Drawn Refusal) → (a.number ≡ 0 → ⊥) → told r ≡ a → (length_of r) ≡ 0
       → FileSays t s d o o r
   layer_refused o r h e y =
       let x = layer_fault t s (grid_in d t) in
-      let k : eqb x 0 ≡ false = ne_eqb x 0 (λ v. h (told.number ∙ v)) in
-      record { answer = rw e told; size = rw k y; out = rw k refl }
+      let k : eqb x 0 ≡ false = ne_eqb x 0 (λ v. h (told_lem.number ∙ v)) in
+      record { answer = rw e told_lem; size = rw k y; out = rw k refl }
 
   -- The file was made of the part that came back, in the first bytes of the output.
-  pub layer_done : (o x : List ℕ) (m : ℕ) (b : Answer) (r : Drawn) → a.number ≡ 0
+  pub layer_done : (o x : List ℕ) (m : ℕ) (b : Answer) (r : Result Drawn Refusal) → a.number ≡ 0
       → (let q = take n (p ++ drop n z) in
-      Calls.FileSays d.width d.height m q (file_in t (grid_in d t) q) (take r.length o) x b)
-      → m ≡ picture_size t (grid_in d t) → r.length ≤ length o
-      → r.length ≡ length (file_in t (grid_in d t) (take n (p ++ drop n z))) → r.answer ≡ a
-      → FileSays t s d o (x ++ drop r.length o) r
+      Calls.FileSays d.width d.height m q (file_in t (grid_in d t) q) (take (length_of r) o) x b)
+      → m ≡ picture_size t (grid_in d t) → (length_of r) ≤ length o
+      → (length_of r) ≡ length (file_in t (grid_in d t) (take n (p ++ drop n z))) → told r ≡ a
+      → FileSays t s d o (x ++ drop (length_of r) o) r
   layer_done o x m b r i u v j l e =
       let g = grid_in d t in
-      let k : layer_fault t s g ≡ 0 = sym told.number ∙ i in
+      let k : layer_fault t s g ≡ 0 = sym told_lem.number ∙ i in
       let h = eq-eqb (layer_fault t s g) 0 k in
       let c = D.walked (read_tape s).tape g in
       let made_of : x ≡ file_in t g (take n (p ++ drop n z))
-      = made (sided i) (f.back.size ∙ pixels i ∙ sym v) (length-take-le r.length o j ∙ l) u in
+      = made (sided i) (f.back.size ∙ pixels i ∙ sym v) (length-take-le (length_of r) o j ∙ l) u in
       let drawn : p ≡ picture t g c.heights
       = f.says.pixels ∙ ap (λ v. written v (picture t g c.heights) (take n z)) (same ∙ k) in
       let file : x ≡ file_of g c.heights
       = made_of ∙ ap (file_in t g) (f.back.same ∙ drawn) ∙ file_of_lem t g c.heights (accepted d t (taken i)).kind in
-      let size : r.length ≡ length (file_of g c.heights) = l ∙ ap length (sym made_of ∙ file) in
-      record { answer = rw e told; size = rw h size; out = rw h (ap₂ (λ v m. v ++ drop m o) file size) }
+      let size : (length_of r) ≡ length (file_of g c.heights) = l ∙ ap length (sym made_of ∙ file) in
+      record { answer = rw e told_lem; size = rw h size; out = rw h (ap₂ (λ v m. v ++ drop m o) file size) }
 
 -- The lengths of the files, as the code has them.
 module _ (d : Grid) (q : List ℕ) (m n : ℕ) (e : length q ≡ n) where

@@ -25,14 +25,14 @@ pub const OUTPUT: usize = 32785;
 // Room for the longest count, of 20 digits, and a newline.
 pub const LINE: usize = 21;
 
-// The answer of the drawing, and the length of the file, 0 if it is refused.
+// The clauses that a drawing counted, and the length of its file.
 #[derive(Clone, Copy)]
 pub struct Drawn {
-    pub answer: Answer,
+    pub count: u64,
     pub length: usize,
 }
 
-// The same answer, with the lengths of what goes to descriptor 1, file or refusal, and to descriptor 2.
+// The answer, with the lengths of what goes to descriptor 1, file or refusal, and to descriptor 2.
 #[derive(Clone, Copy)]
 pub struct Said {
     pub answer: Answer,
@@ -44,18 +44,16 @@ pub fn draw_layer(input: &[u8], out: &mut [u8; OUTPUT], line: &mut [u8; LINE]) -
     ensures { ProgramSays input.now out.old out.new line.old
         line.new result }
 {
-    let drawn = layer_file(input, out);
-    let answer = drawn.answer;
-    if answer.number != 0 {
-        return Said {
-            answer: answer,
-            length: put_refused(out, answer.number, answer.place),
+    match layer_file(input, out) {
+        Ok(drawn) => Said {
+            answer: Answer::of(Ok(drawn.count)),
+            length: drawn.length,
+            line: put_count(line, drawn.count),
+        },
+        Err(refusal) => Said {
+            answer: Answer::of(Err(refusal)),
+            length: put_refused(out, refusal.fault.number(), refusal.place),
             line: 0,
-        };
-    }
-    Said {
-        answer: answer,
-        length: drawn.length,
-        line: put_count(line, answer.count),
+        },
     }
 }

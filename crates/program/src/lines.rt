@@ -1,4 +1,5 @@
-// The two lines of text: what is refused, and the count.
+// The two lines of text: what is refused, and the count. Each part's bytes are those that the contract names, in its
+// order: write! would need a writer over the buffer, and say no more.
 ghost use Rattle.std.specs.Prelude.{◌+◌, ◌≤◌, length};
 ghost use Rattle.program_rules.specs.Program.{count_line, refused_line};
 ghost use Rattle.netpbm.specs.Appending.{Appends};
@@ -27,7 +28,7 @@ pub fn put_refused(out: &mut [u8], number: u8, place: u32) -> usize
     ensures { Appends out.old 0 (refused_line number place) out.new result × (result ≤ 53) }
 {
     let after_word = put(out, 0, b"refused ");
-    let after_number = put_number(out, after_word, number as u64);
+    let after_number = put_number(out, after_word, u64::from(number));
     let after_at = put(out, after_number, b" at ");
-    put_line(out, after_at, place as u64)
+    put_line(out, after_at, u64::from(place))
 }

@@ -14,10 +14,7 @@ const SOLID_LIMIT: u32 = 128;
 pub fn record_ok(input: &[u8]) -> bool
     ensures { result ≡ record_ok input.now }
 {
-    if input.len() >= RECORD_LENGTH {
-        return has_mark(input, 0, b"GR");
-    }
-    false
+    input.len() >= RECORD_LENGTH && has_mark(input, 0, b"GR")
 }
 
 // The grid, flat or solid: also a flat one has its third step here, which no drawing reads.
@@ -41,11 +38,5 @@ pub fn read_grid(input: &[u8]) -> Grid
 pub fn too_large(grid: Grid) -> bool
     ensures { result ≡ too_large (grid_in grid true) }
 {
-    if grid.depth < 1 {
-        return false;
-    }
-    if grid.width > SOLID_LIMIT {
-        return true;
-    }
-    grid.height > SOLID_LIMIT
+    grid.depth >= 1 && (grid.width > SOLID_LIMIT || grid.height > SOLID_LIMIT)
 }

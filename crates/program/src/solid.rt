@@ -5,10 +5,11 @@ ghost use Rattle.program.specs.Says.{output_length, PictureFits, FileSays};
 
 use crate::Drawn;
 use crate::buffers::{zero_bytes, zero_heights};
+use faults::Refusal;
 use netpbm::call::write_heights;
 use netpbm::file::file_length;
 use picture::grid::Grid;
-use solid_drawing::tile_solid;
+use solid_drawing::by_tiles;
 
 fn picture_length(grid: Grid) -> usize
     requires width_le_solid_limit { grid.width ≤ solid_limit }
@@ -18,7 +19,7 @@ fn picture_length(grid: Grid) -> usize
     grid.width as usize * grid.height as usize
 }
 
-pub fn solid_file(tape: &[u8], grid: Grid, out: &mut [u8]) -> Drawn
+pub fn solid_file(tape: &[u8], grid: Grid, out: &mut [u8]) -> Result<Drawn, Refusal>
     requires width_le_solid_limit { grid.width ≤ solid_limit }
     requires height_le_solid_limit { grid.height ≤ solid_limit }
     requires out_len { length out.old ≡ output_length }
@@ -27,13 +28,7 @@ pub fn solid_file(tape: &[u8], grid: Grid, out: &mut [u8]) -> Drawn
     let mut picture = zero_heights();
     let mut work = zero_bytes();
     let size = picture_length(grid);
-    let answer = tile_solid(tape, grid, &mut picture[..size], &mut work);
-    if answer.number != 0 {
-        return Drawn {
-            answer: answer,
-            length: 0,
-        };
-    }
+    let count = by_tiles(tape, grid, &mut picture[..size], &mut work)?;
     let length = file_length(grid.width, grid.height, 6 + 2 * size);
     write_heights(
         grid.width,
@@ -41,8 +36,5 @@ pub fn solid_file(tape: &[u8], grid: Grid, out: &mut [u8]) -> Drawn
         &picture[..size],
         &mut out[..length],
     );
-    Drawn {
-        answer: answer,
-        length: length,
-    }
+    Ok(Drawn { count, length })
 }

@@ -1,14 +1,13 @@
--- The tape of a text that is done, as long as its head says, or the line of the refusal; and what is said of a text that
--- is too long or was not read to its end.
+-- The tape of a text that is done, as long as its head says, or the line of the refusal; and the last word.
 use mathlib.Core.Path.{◌≡◌, refl, sym, ap, ap₂, subst, ◌∙◌}
 use mathlib.Core.Bool.{Bool, true, false, ◌&&◌}
 use mathlib.Core.List.{List, [], ◌++◌}
-use Prim.Native.Nat.{ℕ, ◌+◌, ◌*◌, ◌≤◌, ◌<◌}
+use Prim.Native.Nat.{ℕ, ◌+◌, ◌*◌, ◌≤◌}
 use native.Mathlib.Nat.{zero-add}
 use native.Mathlib.Omega.{arith}
 use lib.Dec.{eqb, leb}
 use lib.ListN.{length, drop, length-append}
-use borrow.Author.Tests.{eq-eqb, ne_eqb, leb-true, lt-ltb, le-ltb}
+use borrow.Author.Tests.{eq-eqb, ne_eqb, leb-true}
 use Rattle.rules.specs.Values.{pick}
 use Rattle.rules.specs.Tapes.{Tape, word, tape_bytes}
 use Rattle.program_rules.specs.Program.{count_line, refused_line}
@@ -24,7 +23,7 @@ use Rattle.promises.specs.Faults.{tape_room, text_fault, answer_fault, answer_by
 use Rattle.answers.specs.declared.Answer.{Answer}
 use Rattle.promises.specs.Says.{TextAnswered}
 use Rattle.promises.proofs.Texts.{text_read, room_kept}
-use Rattle.readtext.specs.Says.{answered, text_limit, long_line, first_of, second_of, Said}
+use Rattle.readtext.specs.Says.{answered, second_of, Said}
 
 -- The head's count of clauses, before whatever bytes.
 head_count : (t : Tape) (b : List ℕ) → length t.clauses ≤ 1024 → word 4 (tape_bytes t ++ b) ≡ length t.clauses
@@ -88,19 +87,6 @@ said_nothing o = record { size = refl; out = refl }
 
 pub said_appended : {s o o' : List ℕ} {r : ℕ} → Appends o 0 s o' r → Said s o o' r
 said_appended {s} p = record { size = p.next ∙ zero-add (length s); out = at_start p }
-
--- What is said by what was read: too long, not to its end, or whole.
-module _ (text : List ℕ) (whole : Bool) where
-  pub first_long : {o o' : List ℕ} {r : ℕ} → text_limit < length text → Said long_line o o' r
-      → Said (first_of text whole) o o' r
-  first_long h f = said_as (sym (rw (lt-ltb text_limit (length text) h) refl)) f
-
-  pub first_none : (o : List ℕ) → length text ≤ text_limit → whole ≡ false → Said (first_of text whole) o o 0
-  first_none o h e = said_as (sym (rw (le-ltb text_limit (length text) h, e) refl)) (said_nothing o)
-
-  pub first_whole : {o o' : List ℕ} {r : ℕ} → length text ≤ text_limit → whole ≡ true → Said (answered text) o o' r
-      → Said (first_of text whole) o o' r
-  first_whole h e f = said_as (sym (rw (le-ltb text_limit (length text) h, e) refl)) f
 
 -- The last word: nothing behind nothing, else the length.
 pub second_none : {s o o' l : List ℕ} {r : ℕ} → Said s o o' r → r ≡ 0 → Said (second_of s) l l 0

@@ -1,12 +1,13 @@
 -- What the program answers to a text: the bytes of its tape, or the line of its refusal, and no other byte; then its
 -- last word, the length of that.
-use Rattle.std.specs.Prelude.{◌≡◌, Bool, List, [], ◌∷◌, ◌++◌, ℕ, eqb, ltb, ℤ, pos, length}
-use Rattle.std.specs.Int.Signed.{lt_z}
+use Rattle.std.specs.Prelude.{◌≡◌, Bool, List, [], ◌∷◌, ◌++◌, ℕ, eqb, ltb, true, false, length}
 use Rattle.rules.specs.Values.{pick}
 use Rattle.program_rules.specs.Program.{count_line, refused_line}
 use Rattle.formula_rules.specs.FormulaReader.{reader}
 use Rattle.promises.specs.Faults.{answer_fault, answer_bytes, in_front}
 use Rattle.readtext.specs.declared.answer.Lengths.{Lengths}
+use Rattle.readtext.specs.declared.input.Input.{Input}
+use Rattle.readtext.specs.declared.input.Input.TheVariants.{Whole, Part}
 
 -- The program's own buffer has the length that is asked for, so that 14 never comes.
 abbrev pub answered : List ℕ → List ℕ
@@ -23,9 +24,18 @@ long_line =
     (116 ∷ (101 ∷ (120 ∷ (116 ∷ (32 ∷ (97 ∷ (98 ∷ (111 ∷ (118 ∷ (101 ∷ (32 ∷ []))))))))))) ++
     ((54 ∷ (53 ∷ (44 ∷ (53 ∷ (51 ∷ (53 ∷ (32 ∷ []))))))) ++ (98 ∷ (121 ∷ (116 ∷ (101 ∷ (115 ∷ (10 ∷ [])))))))
 
--- A read answers how many bytes it has read, 0 at the end of the input, and -1 where it fails.
-abbrev pub failed : ℤ → Bool
-failed got = lt_z got (pos 0)
+-- What was read, and whether that is the whole input.
+abbrev pub bytes_in : Input → List ℕ
+bytes_in (Whole text) = text.now
+bytes_in (Part text) = text.now
+
+abbrev pub is_whole : Input → Bool
+is_whole (Whole text) = true
+is_whole (Part text) = false
+
+abbrev pub IfWhole : Input → Type 0 → Type 0
+IfWhole (Whole text) P = P
+IfWhole (Part text) P = Unit {0}
 
 -- What goes to descriptor 1, of the bytes that were read and whether the input ended behind them. The beginning of a text
 -- can be a formula: nothing is said of it.

@@ -1,7 +1,8 @@
 // What the program answers, on bytes alone.
-ghost use Rattle.readtext.specs.Says.{answered, first_of, Said, Spoken};
+ghost use Rattle.readtext.specs.Says.{answered, first_of, Said, Spoken, bytes_in, is_whole};
 
-use formula::call::read_text;
+use crate::input::Input;
+use formula::read_text::read_text;
 use netpbm::append::put;
 use program::LINE;
 use program::lines::{put_count, put_refused};
@@ -24,40 +25,37 @@ pub struct Lengths {
 fn tape_of(text: &[u8], out: &mut [u8; TAPE]) -> usize
     ensures { Said (answered text.now) out.old out.new result }
 {
-    let answer = read_text(text, out);
-    if answer.number != 0 {
-        return put_refused(out, answer.number, answer.place);
+    match read_text(text, out) {
+        Ok(()) => 8 + 10 * (word_at(out, 4) as usize),
+        Err(fault) => put_refused(out, fault.number(), 0),
     }
-    8 + 10 * (word_at(out, 4) as usize)
 }
 
 // The same of what was read: nothing if that is not the whole text.
-fn put_first(text: &[u8], whole: bool, out: &mut [u8; TAPE]) -> usize
-    ensures { Said (first_of text.now whole) out.old out.new result }
+fn put_first(input: Input, out: &mut [u8; TAPE]) -> usize
+    ensures { Said (first_of (bytes_in input.entry) (is_whole input.entry)) out.old out.new result }
 {
+    let (Input::Whole(text) | Input::Part(text)) = input;
     if text.len() > TEXT {
         return put(out, 0, b"text above 65,535 bytes\n");
     }
-    if !whole {
-        return 0;
+    match input {
+        Input::Whole(text) => tape_of(text, out),
+        Input::Part(_) => 0,
     }
-    tape_of(text, out)
 }
 
 // The last word is the length of what goes before it.
-pub fn answer(text: &[u8], whole: bool, out: &mut [u8; TAPE], line: &mut [u8; LINE]) -> Lengths
-    ensures { Spoken text.now whole out.old out.new line.old
+pub fn answer(input: Input, out: &mut [u8; TAPE], line: &mut [u8; LINE]) -> Lengths
+    ensures { Spoken (bytes_in input.entry) (is_whole input.entry) out.old out.new line.old
         line.new result }
 {
-    let first = put_first(text, whole, out);
+    let first = put_first(input, out);
     if first == 0 {
-        return Lengths {
-            first: first,
-            second: 0,
-        };
+        return Lengths { first, second: 0 };
     }
     Lengths {
-        first: first,
+        first,
         second: put_count(line, first as u64),
     }
 }

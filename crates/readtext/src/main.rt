@@ -11,14 +11,12 @@ use input::read_input;
 use program::LINE;
 
 fn main(rt: HostRuntime) {
-    let mut text = io::large_buffer();
-    let read = read_input(&mut rt.stdin(), &mut text);
+    let mut room = io::large_buffer();
+    let input = read_input(&mut rt.stdin(), &mut room);
     let mut out = [0u8; TAPE];
     let mut line = [0u8; LINE];
-    let said = answer(&text[..read.size], read.whole, &mut out, &mut line);
-    let first = said.first;
-    let second = said.second;
-    if io::write_all(1, &out[..first]) {
-        io::write_all(2, &line[..second]);
+    let said = answer(input, &mut out, &mut line);
+    if io::write_all(1, &out[..said.first]) {
+        io::write_all(2, &line[..said.second]);
     }
 }

@@ -13,6 +13,7 @@ ghost use Rattle.promises.specs.Faults.{Explains};
 ghost use Rattle.promises.specs.Says.{ReasonSays};
 ghost use Rattle.reason.specs.Stops.{stop_in};
 
+use answers::Answer;
 use code::unpack::unpack_words;
 use lines::check_pixel;
 use picture::bits::clear;
@@ -21,7 +22,8 @@ use promises::Reason;
 use stop::{Stop, from_tile};
 use tape::CLAUSE_LIMIT;
 
-// Buffers are lent: for the words, and for those of each level.
+// Buffers are lent: for the words, and for those of each level. Other calls have a function of this shape, each with its own
+// walk, picture and levels: one for all would take the walk as a closure over all of these.
 fn stop_words(
     tape: &[u8],
     grid: Grid,
@@ -55,23 +57,24 @@ fn find_stop(tape: &[u8], grid: Grid, x: u32, y: u32, work: &mut [u8]) -> Stop
 pub fn explain_pixel(tape: &[u8], grid: Grid, x: u32, y: u32, work: &mut [u8]) -> Reason
     ensures { ReasonSays tape.now grid x y work.old work.new result }
 {
-    let checked = check_pixel(tape, grid, x, y, work.len());
-    if checked.number != 0 {
-        return Reason {
-            answer: checked,
+    match check_pixel(tape, grid, x, y, work.len()) {
+        Ok(()) => {
+            let s = find_stop(tape, grid, x, y, work);
+            clear(work);
+            Reason {
+                answer: Answer::of(Ok(0)),
+                side: s.side,
+                low: s.low,
+                high: s.high,
+                clauses: s.clauses,
+            }
+        }
+        Err(refusal) => Reason {
+            answer: refusal.into(),
             side: 0,
             low: 0,
             high: 0,
             clauses: 0,
-        };
-    }
-    let s = find_stop(tape, grid, x, y, work);
-    clear(work);
-    Reason {
-        answer: checked,
-        side: s.side,
-        low: s.low,
-        high: s.high,
-        clauses: s.clauses,
+        },
     }
 }

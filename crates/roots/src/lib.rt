@@ -3,22 +3,20 @@
 // once.
 #![tactic(auto)]
 
+pub mod eight;
+
 ghost use Rattle.std.specs.Prelude.{◌≡◌, not, ℕ, ◌<◌, T, pos};
 ghost use Rattle.std.specs.Float.Ieee.{is_nan};
 ghost use Rattle.rules.specs.Values.{root_of};
 ghost use Rattle.roots.specs.Eight.{One};
 ghost use Rattle.roots.specs.Estimates.{number_of, first_of, Number, Halves, Estimate};
 
+use crate::eight::each;
+
 pub fn roots8(a: [i32; 8]) -> [i32; 8]
     ensures { One root_of a result }
 {
-    let mut r = [0i32; 8];
-    let mut k = 0;
-    while k < 8 {
-        r[k] = root(a[k]);
-        k += 1;
-    }
-    r
+    each(root, a)
 }
 
 fn root(a: i32) -> i32

@@ -1,4 +1,4 @@
--- The loop over the blocks in a block by their number: `while m < end { let cell = child(parent, n, m); .. m += 1; }`.
+-- The loop over the blocks in a block by their number: `for m in 0..part_count(block, side, n) { let part = part_of(block, side, n, m); .. }`.
 -- Each pixel of the block is right, or lies in one that is left.
 use mathlib.Core.Path.{◌≡◌, refl, ap, ◌∙◌}
 use mathlib.Core.List.{List, [], ◌∷◌}
@@ -16,11 +16,11 @@ use Rattle.walk.specs.Cells.{Small, Ends, region_in}
 use Rattle.walk.specs.Children.{Parent, children_in, Whole, ChildOf}
 use Rattle.walk.specs.declared.cell.Cell.{Cell}
 use Rattle.walk.proofs.ChildLaws.{ends_grid, children_of, parent_some, parts_fewer}
-use Rattle.slope_pixels.specs.Shades.{BlockIn, Within, Right, Seen, Alike, Shading}
+use Rattle.slope_pixels.specs.Shades.{block_of, BlockIn, Within, Right, Seen, Alike, Shading}
 use Rattle.slope_pixels.specs.declared.block.Block.{Block}
 use Rattle.slope_pixels.specs.declared.block.Layers.{Layers}
 use Rattle.slope_pixels.proofs.ShadeLaws.{Part, shading_part}
-use Rattle.slope_blocks.specs.Blocks.{cell_of, block_of, BlockOf}
+use Rattle.slope_blocks.specs.Blocks.{cell_of, PartOf, BlockOf}
 
 -- The cell of a block is a parent, for each side that divides its own.
 module _ {layers : ℕ} {grid : Grid} {c : Block} (s n l : ℕ) (g : Small layers grid) (k : BlockOf s grid c)
@@ -102,6 +102,9 @@ child_block {grid} {c} {s} {n} {m} {d} k h =
       };
     }
 
+pub part_block : {grid : Grid} {c d : Block} {s n m : ℕ} → BlockOf s grid c → PartOf s n c m d → BlockOf n grid d
+part_block k p = rw p.same (child_block k p.child).block
+
 -- Before the blocks us of the block c.
 pub record AtBlock (ws : List ℕ) (grid : Grid) (h : List ℕ) (win : Layers) (c : Block) (us : List Region)
     (b b' : List ℤ) : Type 0 where
@@ -173,12 +176,11 @@ module _ {ws : List ℕ} {grid : Grid} {h : List ℕ} {win : Layers} {c : Block}
   -- A turn with child number m, and past the last one.
   module _ (s n m : ℕ) (k : BlockOf s grid c) {b b₁ : List ℤ}
       (u : AtBlock ws grid h win c (drop m (children_in (cell_of s c) n)) b b₁) where
-    pub blocks_again : {d : Cell} {b₂ : List ℤ} → ChildOf (cell_of s c) n m d
-        → Shading ws grid h win (block_of d) (block_of d) b₁ b₂ → length b₂ ≡ length b₁
-        → AtBlock ws grid h win c (drop (m + 1) (children_in (cell_of s c) n)) b b₂
+    pub blocks_again : {d : Block} {b₂ : List ℤ} → PartOf s n c m d → Shading ws grid h win d d b₁ b₂
+        → length b₂ ≡ length b₁ → AtBlock ws grid h win c (drop (m + 1) (children_in (cell_of s c) n)) b b₂
     blocks_again o v l =
-        let d = child_block k o in
-        rw add-one (blocks_next k.in_grid u o.next d.holds (shading_part d.part v) l)
+        let d = child_block k o.child in
+        rw add-one (blocks_next k.in_grid u o.child.next d.holds (shading_part d.part (rw o.same at v)) l)
 
     pub blocks_done : length (children_in (cell_of s c) n) ≤ m → Shading ws grid h win c c b b₁
     blocks_done l = all_done k.in_grid u (drop_of_length-le (children_in (cell_of s c) n) l)

@@ -1,19 +1,23 @@
 -- Blocks as cells of one layer, and what the functions that shade blocks ask.
-use Rattle.std.specs.Prelude.{List, ℕ, ◌+◌, ◌≤◌, ℤ, length}
+use Rattle.std.specs.Prelude.{◌≡◌, List, ℕ, ◌+◌, ◌≤◌, ℤ, length}
 use Rattle.picture.specs.declared.grid.Grid.{Grid}
 use Rattle.walk.specs.Walks.{Level, MarksFit}
+use Rattle.walk.specs.Children.{ChildOf}
 use Rattle.walk.specs.declared.cell.Cell.{Cell}
-use Rattle.slope_pixels.specs.Shades.{Fits, BlockIn}
+use Rattle.slope_pixels.specs.Shades.{block_of, Fits, BlockIn}
 use Rattle.slope_pixels.specs.declared.block.Block.{Block}
 use Rattle.slope_pixels.specs.declared.block.Layers.{Layers}
 use Rattle.slope_blocks.specs.Narrow.{LayersIn}
 
--- The cell of a block, whose children are the blocks in it; and the block of a cell.
+-- The cell of a block, whose children are the blocks in it.
 abbrev pub cell_of : ℕ → Block → Cell
 cell_of n c = record { x = c.x; xend = c.xend; y = c.y; yend = c.yend; z = 0; zend = 1; side = n }
 
-abbrev pub block_of : Cell → Block
-block_of p = record { x = p.x; xend = p.xend; y = p.y; yend = p.yend }
+-- The block d is that of child m.
+pub record PartOf (s n : ℕ) (c : Block) (m : ℕ) (d : Block) : Type 0 where
+  pub cell : Cell
+  pub child : ChildOf (cell_of s c) n m cell
+  pub same : d ≡ block_of cell
 
 -- A block of the grid of at most n by n pixels.
 pub record BlockOf (n : ℕ) (grid : Grid) (c : Block) : Type 0 where

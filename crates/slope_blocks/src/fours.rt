@@ -3,12 +3,11 @@ ghost use Rattle.slope_pixels.specs.Shades.{Shading};
 ghost use Rattle.slope_blocks.specs.Blocks.{ForFours};
 
 use crate::narrow::narrow;
+use crate::parts::{part_count, part_of};
 use picture::grid::Grid;
 use shortening::marks::mark_room;
 use slope_pixels::block::{Block, Layers, seen_in};
 use slope_pixels::pixels::shade_rows;
-use walk::cell::Cell;
-use walk::children::{child, child_count};
 
 fn visit_four(
     whole: &[u64],
@@ -52,28 +51,10 @@ pub fn fours(
     ensures { Shading code.now grid picture.now window block block
         slopes.old slopes.new }
 {
-    let parent = Cell {
-        x: block.x,
-        xend: block.xend,
-        y: block.y,
-        yend: block.yend,
-        z: 0,
-        zend: 1,
-        side: 16,
-    };
-    let end = child_count(parent, 4);
-    let mut m = 0;
-    while m < end {
-        let cell = child(parent, 4, m);
-        let four = Block {
-            x: cell.x,
-            xend: cell.xend,
-            y: cell.y,
-            yend: cell.yend,
-        };
+    for m in 0..part_count(block, 16, 4) {
+        let four = part_of(block, 16, 4, m);
         visit_four(
             whole, code, grid, four, window, picture, slopes, work, second,
         );
-        m += 1;
     }
 }

@@ -3,4 +3,5 @@
 
 pub mod fours;
 pub mod narrow;
+mod parts;
 pub mod sixteens;

@@ -8,11 +8,10 @@ ghost use Rattle.slope_blocks.specs.Blocks.{Lent, ForSixteens, ForWindow};
 
 use crate::fours::fours;
 use crate::narrow::narrow;
+use crate::parts::{part_count, part_of};
 use picture::grid::Grid;
 use slope_pixels::block::{Block, Layers, seen_in};
 use slope_pixels::pixels::clear;
-use walk::cell::Cell;
-use walk::children::{child, child_count};
 
 // The pixels of a block whose heights lie in a window.
 fn shade_window(
@@ -43,11 +42,7 @@ fn upper_from(layers: Layers) -> u32
     requires { layers.from < layers.end }
     ensures { (layers.from ≤ result) × (result < layers.end) }
 {
-    if layers.end - layers.from <= 32 {
-        layers.from
-    } else {
-        layers.end - 32
-    }
+    layers.from.max(layers.end.saturating_sub(32))
 }
 
 // Windows of at most 32 layers, from the greatest height down: heights that no pixel has are passed over.
@@ -71,10 +66,11 @@ fn visit_sixteen(
         end: grid.depth,
     };
     let mut left = seen_in(picture, grid, block, all);
+    // No index is counted: each turn goes on to the next window that has heights.
     while left.from < left.end {
         let from = upper_from(left);
         let window = Layers {
-            from: from,
+            from,
             end: left.end,
         };
         shade_window(
@@ -103,27 +99,9 @@ fn sixteens(
     ensures { Shading whole.now grid picture.now (all_of grid) block block
         slopes.old slopes.new }
 {
-    let parent = Cell {
-        x: block.x,
-        xend: block.xend,
-        y: block.y,
-        yend: block.yend,
-        z: 0,
-        zend: 1,
-        side: 512,
-    };
-    let end = child_count(parent, 16);
-    let mut m = 0;
-    while m < end {
-        let cell = child(parent, 16, m);
-        let sixteen = Block {
-            x: cell.x,
-            xend: cell.xend,
-            y: cell.y,
-            yend: cell.yend,
-        };
+    for m in 0..part_count(block, 512, 16) {
+        let sixteen = part_of(block, 512, 16, m);
         visit_sixteen(whole, grid, sixteen, picture, slopes, work, first, second);
-        m += 1;
     }
 }
 

@@ -6,12 +6,14 @@ ghost use Rattle.std.specs.Prelude.{true, ◌≡◌, length};
 ghost use Rattle.rules.specs.Tapes.{clause_limit};
 ghost use Rattle.picture.specs.Shapes.{grid_in};
 ghost use Rattle.answers.specs.Lines.{DrawsSlopes};
+ghost use Rattle.answers.specs.Says.{answer_of};
 ghost use Rattle.promises.specs.Says.{SlopesSay};
 ghost use Rattle.slope_drawing.specs.Sloped.{SlopesOf};
 
+use answers::Answer;
 use answers::lines::check_slopes;
-use answers::{Answer, done};
 use code::unpack::unpack_words;
+use faults::Refusal;
 use picture::bits::clear;
 use picture::grid::Grid;
 use slope_blocks::sixteens::shade;
@@ -66,6 +68,22 @@ fn slope(tape: &[u8], grid: Grid, picture: &mut [u16], slopes: &mut [i32], work:
     )
 }
 
+fn checked(
+    tape: &[u8],
+    grid: Grid,
+    picture: &mut [u16],
+    slopes: &mut [i32],
+    work: &mut [u8],
+) -> Result<u64, Refusal>
+    ensures { SlopesSay tape.now grid picture.old picture.new
+        slopes.old slopes.new work.old work.new (answer_of result) }
+{
+    check_slopes(tape, grid, picture.len(), slopes.len(), work.len())?;
+    let count = slope(tape, grid, picture, slopes, work);
+    clear(work);
+    Ok(count)
+}
+
 pub fn tile_slopes(
     tape: &[u8],
     grid: Grid,
@@ -76,11 +94,5 @@ pub fn tile_slopes(
     ensures { SlopesSay tape.now grid picture.old picture.new
         slopes.old slopes.new work.old work.new result }
 {
-    let checked = check_slopes(tape, grid, picture.len(), slopes.len(), work.len());
-    if checked.number != 0 {
-        return checked;
-    }
-    let count = slope(tape, grid, picture, slopes, work);
-    clear(work);
-    done(count)
+    Answer::of(checked(tape, grid, picture, slopes, work))
 }

@@ -2,41 +2,14 @@
 use mathlib.Core.Path.{◌≡◌, subst}
 use mathlib.Core.List.{List}
 use mathlib.Core.Logic.{◌⊎◌, inl, inr}
-use Prim.Native.Nat.{ℕ, zero, suc, ◌+◌, ◌-◌, ◌*◌, ◌≤◌, ◌<◌}
+use Prim.Native.Nat.{ℕ, ◌+◌, ◌*◌, ◌≤◌, ◌<◌}
 use native.Mathlib.Omega.{arith}
 use lib.ListN.{get_or}
-use Rattle.rules.specs.Drawings.{lesser}
-use Rattle.rules.proofs.Regions.{lesser_both, lesser_most}
 use Rattle.picture.specs.declared.grid.Grid.{Grid}
 use Rattle.slope_pixels.specs.declared.block.Block.{Block}
 use Rattle.slope_pixels.specs.declared.block.Layers.{Layers}
 use Rattle.slope_pixels.specs.Shades.{block_at, pixel_at, Within, Seen, layers_at, Wider, Joined, Spans, Tight}
 use Rattle.slope_pixels.proofs.ShadeLaws.{columns_split, rows_split}
-
--- A window that begins at the lesser of its first layer and a height's, and ends at the greater of its last and the
--- height.
-pub joined_by : {v from end : ℕ} {all before : Layers} → all.from < v → v ≤ all.end
-    → from ≡ lesser before.from (v - 1) → before.end ≤ end → v ≤ end → (end ≤ v ⊎ end ≤ before.end)
-    → Joined v all before (layers_at from end)
-joined_by {v} {from} {end} {all} {before} l m e p q u =
-    let n = lesser_most before.from (v - 1) in
-    record {
-      wider = record {
-        low = omega (arith, n.0, e);
-        high = p;
-        from = λ a. omega (arith, least all.from before.from (v - 1) a (omega (arith, l)), e);
-        end = λ b. ends u b;
-      };
-      has = λ a b. (omega (arith, n.1, l, e), q);
-    }
-  where
-    least : (x a b : ℕ) → x ≤ a → x ≤ b → x ≤ lesser a b
-    least zero a b h k = omega arith
-    least (suc x) a b h k = let y = lesser_both x a b (omega arith) (omega arith) in omega arith
-
-    ends : (end ≤ v ⊎ end ≤ before.end) → before.end ≤ all.end → end ≤ all.end
-    ends (inl a) b = omega arith
-    ends (inr a) b = omega arith
 
 module _ {grid : Grid} {h : List ℕ} {all : Layers} where
   spans_none : (d : Block) (r : Layers) → ((i j : ℕ) → Within d i j → ⊥) → Spans grid h d all r r

@@ -7,6 +7,7 @@ use Rattle.rules.specs.Slopes.{slopes_at, three_at, pixel_slopes}
 use Rattle.code.specs.Words.{tape_in}
 use Rattle.picture.specs.Shapes.{grid_in}
 use Rattle.picture.specs.declared.grid.Grid.{Grid}
+use Rattle.walk.specs.declared.cell.Cell.{Cell}
 use Rattle.slope_pixels.specs.declared.block.Block.{Block}
 use Rattle.slope_pixels.specs.declared.block.Layers.{Layers}
 
@@ -27,6 +28,10 @@ pub record Fits (grid : Grid) (h : List ℕ) (b : List ℤ) : Type 0 where
 
 abbrev pub block_at : ℕ → ℕ → ℕ → ℕ → Block
 block_at x xend y yend = record { x = x; xend = xend; y = y; yend = yend }
+
+-- The pixels of a region.
+abbrev pub block_of : Cell → Block
+block_of p = block_at p.x p.xend p.y p.yend
 
 abbrev pub pixel_at : ℕ → ℕ → Block
 pixel_at x y = block_at x (x + 1) y (y + 1)

@@ -1,9 +1,10 @@
 // A block of pixels, and the least window of layers that its heights lie in.
-ghost use Rattle.slope_pixels.specs.Shades.{row_of, Spans, Joined, Tight};
+ghost use Rattle.std.specs.Prelude.{◌≡◌};
+ghost use Rattle.slope_pixels.specs.Shades.{block_of, row_of, Spans, Joined, Tight};
 ghost use Rattle.slope_pixels.specs.Asked.{ForSeenRow, ForSeen};
 
 use picture::grid::Grid;
-use walk::cell::lesser;
+use walk::cell::Cell;
 
 // First index and past the last one on both axes.
 #[derive(Clone, Copy)]
@@ -12,6 +13,20 @@ pub struct Block {
     pub xend: u32,
     pub y: u32,
     pub yend: u32,
+}
+
+// The pixels of a region.
+impl From<Cell> for Block {
+    ghost from_gives = { λ c b. b ≡ block_of c };
+
+    fn from(c: Cell) -> Block {
+        Block {
+            x: c.x,
+            xend: c.xend,
+            y: c.y,
+            yend: c.yend,
+        }
+    }
 }
 
 // Heights above `from` and up to `end`: the visible samples of their pixels have the z indices from the first number
@@ -27,20 +42,12 @@ fn join(known: Layers, height: u16, all: Layers) -> Layers
     ensures { Joined height all known result }
 {
     let v = height as u32;
-    if v <= all.from {
+    if v <= all.from || all.end < v {
         return known;
     }
-    if all.end < v {
-        return known;
-    }
-    let from = lesser(known.from, v - 1);
-    if known.end < v {
-        Layers { from: from, end: v }
-    } else {
-        Layers {
-            from: from,
-            end: known.end,
-        }
+    Layers {
+        from: known.from.min(v - 1),
+        end: known.end.max(v),
     }
 }
 
@@ -49,11 +56,9 @@ fn seen_row(picture: &[u16], grid: Grid, block: Block, y: u32, all: Layers, know
     ensures { Spans grid picture.now (row_of block y) all known result }
 {
     let mut seen = known;
-    let mut x = block.x;
-    while x < block.xend {
+    for x in block.x..block.xend {
         let at = (y * grid.width + x) as usize;
         seen = join(seen, picture[at], all);
-        x += 1;
     }
     seen
 }
@@ -71,10 +76,8 @@ pub fn seen_in(picture: &[u16], grid: Grid, block: Block, all: Layers) -> Layers
     if all.end <= all.from {
         return seen;
     }
-    let mut y = block.y;
-    while y < block.yend {
+    for y in block.y..block.yend {
         seen = seen_row(picture, grid, block, y, all, seen);
-        y += 1;
     }
     seen
 }

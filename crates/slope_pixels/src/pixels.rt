@@ -1,6 +1,6 @@
 // The pixels of a block, each run on values with slopes at its visible sample.
 ghost use Rattle.std.specs.Prelude.{◌≡◌, pos, length, replicate};
-ghost use Rattle.slope_runs.specs.Shapes.{slots_of, Sized};
+ghost use Rattle.slope_runs.specs.Shapes.{slots_in, Sized};
 ghost use Rattle.slope_pixels.specs.Shades.{put_at, pixel_at, Shading};
 ghost use Rattle.slope_pixels.specs.Asked.{PlaceIn, ForPixel, ForRow, ForRows};
 
@@ -8,17 +8,14 @@ use crate::block::{Block, Layers};
 use fixed::clause::Sample;
 use picture::grid::{Grid, sample};
 use slope_runs::run::run_slopes;
+use slope_runs::slots::SlopeSlots;
 use tape::SLOT_LIMIT;
 
 // The slopes of a picture without material.
 pub fn clear(slopes: &mut [i32])
     ensures { slopes.new ≡ replicate (length slopes.old) (pos 0) }
 {
-    let mut i = 0;
-    while i < slopes.len() {
-        slopes[i] = 0;
-        i += 1;
-    }
+    slopes.fill(0);
 }
 
 // Three numbers at the place of the pixel `at`, one of at most 512 by 512.
@@ -46,24 +43,18 @@ fn shade_pixel(
     slopes: &mut [i32],
     pixel: Pixel,
     window: Layers,
-    values: &mut [i32; SLOT_LIMIT],
-    xs: &mut [i32; SLOT_LIMIT],
-    ys: &mut [i32; SLOT_LIMIT],
-    zs: &mut [i32; SLOT_LIMIT],
+    slots: &mut SlopeSlots,
 )
     requires { ForPixel code.now grid picture.now slopes.old pixel
-        (slots_of values.old xs.old ys.old zs.old) }
+        (slots_in slots.old) }
     ensures shading { Shading code.now grid picture.now window
         (pixel_at pixel.x pixel.y) (pixel_at pixel.x pixel.y)
         slopes.old slopes.new }
-    ensures sized { Sized (slots_of values.new xs.new ys.new zs.new) }
+    ensures sized { Sized (slots_in slots.new) }
 {
     let at = (pixel.y * grid.width + pixel.x) as usize;
     let height = picture[at] as u32;
-    if height <= window.from {
-        return;
-    }
-    if window.end < height {
+    if height <= window.from || window.end < height {
         return;
     }
     let s = Sample {
@@ -71,7 +62,7 @@ fn shade_pixel(
         y: sample(grid.yorigin, grid.ystep, pixel.y),
         z: sample(grid.zorigin, grid.zstep, height - 1),
     };
-    let found = run_slopes(code, s, values, xs, ys, zs);
+    let found = run_slopes(code, s, slots);
     put(slopes, at, found.x, found.y, found.z);
 }
 
@@ -83,24 +74,17 @@ fn shade_row(
     slopes: &mut [i32],
     row: Block,
     window: Layers,
-    values: &mut [i32; SLOT_LIMIT],
-    xs: &mut [i32; SLOT_LIMIT],
-    ys: &mut [i32; SLOT_LIMIT],
-    zs: &mut [i32; SLOT_LIMIT],
+    slots: &mut SlopeSlots,
 )
     requires { ForRow code.now grid picture.now slopes.old row
-        (slots_of values.old xs.old ys.old zs.old) }
+        (slots_in slots.old) }
     ensures shading { Shading code.now grid picture.now window row row
         slopes.old slopes.new }
-    ensures sized { Sized (slots_of values.new xs.new ys.new zs.new) }
+    ensures sized { Sized (slots_in slots.new) }
 {
-    let mut x = row.x;
-    while x < row.xend {
-        let pixel = Pixel { x: x, y: row.y };
-        shade_pixel(
-            code, grid, picture, slopes, pixel, window, values, xs, ys, zs,
-        );
-        x += 1;
+    for x in row.x..row.xend {
+        let pixel = Pixel { x, y: row.y };
+        shade_pixel(code, grid, picture, slopes, pixel, window, slots);
     }
 }
 
@@ -117,31 +101,19 @@ pub fn shade_rows(
     ensures { Shading code.now grid picture.now window block block
         slopes.old slopes.new }
 {
-    let mut values = [0i32; SLOT_LIMIT];
-    let mut xs = [0i32; SLOT_LIMIT];
-    let mut ys = [0i32; SLOT_LIMIT];
-    let mut zs = [0i32; SLOT_LIMIT];
-    let mut y = block.y;
-    while y < block.yend {
-        let next = y + 1;
+    let mut slots = SlopeSlots {
+        values: [0i32; SLOT_LIMIT],
+        xs: [0i32; SLOT_LIMIT],
+        ys: [0i32; SLOT_LIMIT],
+        zs: [0i32; SLOT_LIMIT],
+    };
+    for y in block.y..block.yend {
         let row = Block {
             x: block.x,
             xend: block.xend,
-            y: y,
-            yend: next,
+            y,
+            yend: y + 1,
         };
-        shade_row(
-            code,
-            grid,
-            picture,
-            slopes,
-            row,
-            window,
-            &mut values,
-            &mut xs,
-            &mut ys,
-            &mut zs,
-        );
-        y = next;
+        shade_row(code, grid, picture, slopes, row, window, &mut slots);
     }
 }

@@ -1,26 +1,21 @@
 // The slopes on one axis that take more than one operation: p and q are the operands' slopes, a and b their values, v
 // the clause's value.
-ghost use Rattle.std.specs.Prelude.{◌≡◌, neg_ℤ};
+ghost use Rattle.std.specs.Prelude.{◌≡◌};
 ghost use Rattle.rules.specs.Values.{IsValue, sum, difference, product, quotient};
 ghost use Rattle.rules.specs.Slopes.{by_sign, twice, zero_at};
 
 use fixed::value;
 
-// In the two that follow p may be the one number of 32 bits that is no value, so the negative is taken by a difference,
-// which is clamped.
-pub fn negative(p: i32) -> i32
-    ensures { IsValue p → result ≡ neg_ℤ p }
-{
-    value::subtract(0, p)
-}
-
+// p may be the one number of 32 bits that is no value, so the negative is taken by a difference, which is clamped.
 pub fn by_sign(a: i32, p: i32) -> i32
     ensures { IsValue p → result ≡ by_sign a p }
 {
     if a < 0 {
-        negative(p)
+        value::opposite(p)
+    } else if 0 < a {
+        p
     } else {
-        if 0 < a { p } else { 0 }
+        0
     }
 }
 

@@ -16,39 +16,63 @@ pub struct Sloped {
     pub z: i32,
 }
 
+// A value, and one operation on the slopes of one operand, or of two.
+#[inline(always)]
+fn each<F: Fn(i32) -> i32>(value: i32, f: F, a: Sloped) -> Sloped
+    requires on_x { F.pre f a.x }
+    requires on_y { F.pre f a.y }
+    requires on_z { F.pre f a.z }
+    ensures value { result.value ≡ value }
+    ensures x { F.post f a.x result.x }
+    ensures y { F.post f a.y result.y }
+    ensures z { F.post f a.z result.z }
+{
+    Sloped {
+        value,
+        x: f(a.x),
+        y: f(a.y),
+        z: f(a.z),
+    }
+}
+
+#[inline(always)]
+fn each_of_two<F: Fn(i32, i32) -> i32>(value: i32, f: F, a: Sloped, b: Sloped) -> Sloped
+    requires on_x { F.pre f a.x b.x }
+    requires on_y { F.pre f a.y b.y }
+    requires on_z { F.pre f a.z b.z }
+    ensures value { result.value ≡ value }
+    ensures x { F.post f a.x b.x result.x }
+    ensures y { F.post f a.y b.y result.y }
+    ensures z { F.post f a.z b.z result.z }
+{
+    Sloped {
+        value,
+        x: f(a.x, b.x),
+        y: f(a.y, b.y),
+        z: f(a.z, b.z),
+    }
+}
+
 pub fn negate(a: Sloped) -> Sloped
     ensures { AllValues a → result ≡ each (neg_ℤ a.value) neg_ℤ a }
 {
-    Sloped {
-        value: axis::negative(a.value),
-        x: axis::negative(a.x),
-        y: axis::negative(a.y),
-        z: axis::negative(a.z),
-    }
+    each(value::opposite(a.value), value::opposite, a)
 }
 
 pub fn absolute(a: Sloped) -> Sloped
     ensures { AllValues a → result ≡ each (absolute a.value) (by_sign a.value) a }
 {
-    let p = a.value;
-    Sloped {
-        value: axis::by_sign(p, p),
-        x: axis::by_sign(p, a.x),
-        y: axis::by_sign(p, a.y),
-        z: axis::by_sign(p, a.z),
-    }
+    each(
+        axis::by_sign(a.value, a.value),
+        |p| axis::by_sign(a.value, p),
+        a,
+    )
 }
 
 pub fn square(a: Sloped) -> Sloped
     ensures { result ≡ each (square a.value) (λ p. twice (product a.value p)) a }
 {
-    let p = a.value;
-    Sloped {
-        value: value::square(p),
-        x: axis::of_square(p, a.x),
-        y: axis::of_square(p, a.y),
-        z: axis::of_square(p, a.z),
-    }
+    each(value::square(a.value), |p| axis::of_square(a.value, p), a)
 }
 
 pub fn root(a: Sloped) -> Sloped
@@ -56,34 +80,19 @@ pub fn root(a: Sloped) -> Sloped
         (quotient p (twice (root_of a.value)))) a }
 {
     let v = isqrt::root(a.value);
-    Sloped {
-        value: v,
-        x: axis::of_root(a.x, v),
-        y: axis::of_root(a.y, v),
-        z: axis::of_root(a.z, v),
-    }
+    each(v, |p| axis::of_root(p, v), a)
 }
 
 pub fn add(a: Sloped, b: Sloped) -> Sloped
     ensures { result ≡ each_of_two (sum a.value b.value) sum a b }
 {
-    Sloped {
-        value: value::add(a.value, b.value),
-        x: value::add(a.x, b.x),
-        y: value::add(a.y, b.y),
-        z: value::add(a.z, b.z),
-    }
+    each_of_two(value::add(a.value, b.value), value::add, a, b)
 }
 
 pub fn subtract(a: Sloped, b: Sloped) -> Sloped
     ensures { result ≡ each_of_two (difference a.value b.value) difference a b }
 {
-    Sloped {
-        value: value::subtract(a.value, b.value),
-        x: value::subtract(a.x, b.x),
-        y: value::subtract(a.y, b.y),
-        z: value::subtract(a.z, b.z),
-    }
+    each_of_two(value::subtract(a.value, b.value), value::subtract, a, b)
 }
 
 pub fn multiply(a: Sloped, b: Sloped) -> Sloped
@@ -92,29 +101,25 @@ pub fn multiply(a: Sloped, b: Sloped) -> Sloped
 {
     let m = a.value;
     let n = b.value;
-    Sloped {
-        value: value::multiply(m, n),
-        x: axis::of_product(a.x, b.x, m, n),
-        y: axis::of_product(a.y, b.y, m, n),
-        z: axis::of_product(a.z, b.z, m, n),
-    }
+    each_of_two(
+        value::multiply(m, n),
+        |p, q| axis::of_product(p, q, m, n),
+        a,
+        b,
+    )
 }
 
 // The side that wins, left on a tie.
 pub fn minimum(a: Sloped, b: Sloped) -> Sloped
     ensures { result ≡ pick (below b.value a.value) b a }
 {
-    let m = a.value;
-    let n = b.value;
-    if n < m { b } else { a }
+    if b.value < a.value { b } else { a }
 }
 
 pub fn maximum(a: Sloped, b: Sloped) -> Sloped
     ensures { result ≡ pick (below a.value b.value) b a }
 {
-    let m = a.value;
-    let n = b.value;
-    if m < n { b } else { a }
+    if a.value < b.value { b } else { a }
 }
 
 pub fn divide(a: Sloped, b: Sloped) -> Sloped
@@ -123,10 +128,5 @@ pub fn divide(a: Sloped, b: Sloped) -> Sloped
 {
     let n = b.value;
     let v = value::divide(a.value, n);
-    Sloped {
-        value: v,
-        x: axis::of_quotient(a.x, b.x, n, v),
-        y: axis::of_quotient(a.y, b.y, n, v),
-        z: axis::of_quotient(a.z, b.z, n, v),
-    }
+    each_of_two(v, |p, q| axis::of_quotient(p, q, n, v), a, b)
 }

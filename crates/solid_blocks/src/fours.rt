@@ -82,21 +82,18 @@ pub fn fours(
         result: 0,
         lane: 0,
     };
-    let mut m = 0;
-    while m < end {
+    for m in 0..end {
         let cell = child(parent, 4, m);
         if is_hidden(grid, cell, picture) {
-            m += 1;
-        } else {
-            batch = batch_with(
-                code, grid, parent, 4, m, end, batch, picture, &mut ends, choices,
-            );
-            let lane = lane_at(&ends, batch.result, batch.lane);
-            count += visit_four(
-                whole, code, grid, cell, lane, choices, picture, work, third, slots,
-            );
-            m += 1;
+            continue;
         }
+        batch = batch_with(
+            code, grid, parent, 4, m, end, batch, picture, &mut ends, choices,
+        );
+        let lane = lane_at(&ends, batch.result, batch.lane);
+        count += visit_four(
+            whole, code, grid, cell, lane, choices, picture, work, third, slots,
+        );
     }
     count
 }

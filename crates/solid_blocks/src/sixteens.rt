@@ -91,26 +91,23 @@ pub fn sixteens(
         lane: 0,
     };
     let mut count: u64 = 0;
-    let mut m = 0;
-    while m < end {
+    for m in 0..end {
         let cell = child(parent, 16, m);
         if is_hidden(grid, cell, picture) {
-            m += 1;
-        } else {
-            batch = batch_with(
-                code, grid, parent, 16, m, end, batch, picture, &mut ends, choices,
-            );
-            let lane = lane_at(&ends, batch.result, batch.lane);
-            let seen = look_lane(
-                whole, code, grid, cell, lane, choices, picture, work, base, second,
-            );
-            let own = own_run(seen, code.len());
-            count += own
-                + inside(
-                    whole, seen, grid, cell, picture, work, second, third, &mut slots, below,
-                );
-            m += 1;
+            continue;
         }
+        batch = batch_with(
+            code, grid, parent, 16, m, end, batch, picture, &mut ends, choices,
+        );
+        let lane = lane_at(&ends, batch.result, batch.lane);
+        let seen = look_lane(
+            whole, code, grid, cell, lane, choices, picture, work, base, second,
+        );
+        let own = own_run(seen, code.len());
+        count += own
+            + inside(
+                whole, seen, grid, cell, picture, work, second, third, &mut slots, below,
+            );
     }
     count
 }

@@ -1,17 +1,19 @@
 // The solid drawing, in full and by tiles: the checks, and then the drawing of the tape's words, in arrays of the call's own
-// that are as long as any tape needs.
+// that are as long as any tape needs. Why flat drawings have a form of their own is said in their crate.
 #![tactic(auto)]
 
 ghost use Rattle.std.specs.Prelude.{true, ◌≡◌, length};
 ghost use Rattle.rules.specs.Tapes.{clause_limit};
 ghost use Rattle.picture.specs.Shapes.{grid_in};
 ghost use Rattle.answers.specs.Lines.{Draws, DrawsByTiles};
+ghost use Rattle.answers.specs.Says.{answer_of};
 ghost use Rattle.promises.specs.Says.{FullSays, TilesSay};
 ghost use Rattle.drawings.specs.Drawn.{FullOf, TilesOf};
 
+use answers::Answer;
 use answers::lines::{check_full, check_tiles};
-use answers::{Answer, done};
 use code::unpack::unpack_words;
+use faults::Refusal;
 use picture::bits::clear;
 use picture::grid::Grid;
 use tape::CLAUSE_LIMIT;
@@ -25,14 +27,17 @@ fn draw(tape: &[u8], grid: Grid, picture: &mut [u16]) -> u64
     full_drawing::solid::draw_solid(&words[..n], grid, picture)
 }
 
+fn full(tape: &[u8], grid: Grid, picture: &mut [u16]) -> Result<u64, Refusal>
+    ensures { FullSays true tape.now grid picture.old picture.new (answer_of result) }
+{
+    check_full(true, tape, grid, picture.len())?;
+    Ok(draw(tape, grid, picture))
+}
+
 pub fn draw_solid(tape: &[u8], grid: Grid, picture: &mut [u16]) -> Answer
     ensures { FullSays true tape.now grid picture.old picture.new result }
 {
-    let checked = check_full(true, tape, grid, picture.len());
-    if checked.number != 0 {
-        return checked;
-    }
-    done(draw(tape, grid, picture))
+    Answer::of(full(tape, grid, picture))
 }
 
 // The walk of the tape's words, in buffers that are lent: for the words, and for those of each level.
@@ -77,15 +82,25 @@ fn tile(tape: &[u8], grid: Grid, picture: &mut [u16], work: &mut [u8]) -> u64
     )
 }
 
+// For callers that go on: the clauses counted, or why it is refused.
+pub fn by_tiles(
+    tape: &[u8],
+    grid: Grid,
+    picture: &mut [u16],
+    work: &mut [u8],
+) -> Result<u64, Refusal>
+    ensures { TilesSay true tape.now grid picture.old picture.new
+        work.old work.new (answer_of result) }
+{
+    check_tiles(true, tape, grid, picture.len(), work.len())?;
+    let count = tile(tape, grid, picture, work);
+    clear(work);
+    Ok(count)
+}
+
 pub fn tile_solid(tape: &[u8], grid: Grid, picture: &mut [u16], work: &mut [u8]) -> Answer
     ensures { TilesSay true tape.now grid picture.old picture.new
         work.old work.new result }
 {
-    let checked = check_tiles(true, tape, grid, picture.len(), work.len());
-    if checked.number != 0 {
-        return checked;
-    }
-    let count = tile(tape, grid, picture, work);
-    clear(work);
-    done(count)
+    Answer::of(by_tiles(tape, grid, picture, work))
 }

@@ -24,10 +24,10 @@ pub record ListedFrom (m end : ℕ) (r : List ℕ) : Type 0 where
   pub first : get_or r 0 0 ≡ m
   pub there : (k : ℕ) → k < lane_count → get_or r k 0 < end
 
--- A lane that has the number m, or `lane_count`.
-pub record Found (ns : List ℕ) (m r : ℕ) : Type 0 where
-  pub few : r ≤ lane_count
-  pub own : r < lane_count → get_or ns r 0 ≡ m
+-- A lane that has the number m.
+pub record Found (ns : List ℕ) (m k : ℕ) : Type 0 where
+  pub lane : k < lane_count
+  pub own : get_or ns k 0 ≡ m
 
 -- What is asked for child m: the words of an accepted tape, its siblings, a row of choices for each word, and the run of
 -- the batch before.

@@ -2,6 +2,7 @@
 // listed by the picture as it is when the first of them comes, and not for the whole region at once.
 #![tactic(auto)]
 
+ghost use Rattle.std.specs.Prelude.{IfSome};
 ghost use Rattle.solid_lanes.specs.SolidLanes.{ForList, ListedFrom, Found, ForBatch, InBatch};
 
 use child_lanes::run_numbered;
@@ -29,29 +30,23 @@ fn seen_from(grid: Grid, parent: Cell, side: u32, m: u32, end: u32, picture: &[u
 {
     let mut r = [m; 8];
     let mut n = 1;
-    let mut i = m + 1;
-    while i < end && n < 8 {
+    for i in m + 1..end {
+        if n == 8 {
+            break;
+        }
         if !is_hidden(grid, child(parent, side, i), picture) {
             r[n] = i;
             n += 1;
         }
-        i += 1;
     }
     r
 }
 
-// The lane of number m, or 8 where it is in none.
-fn find_lane(numbers: [u32; 8], m: u32) -> usize
-    ensures { Found numbers m result }
+// The lane of number m, if it is in one.
+fn find_lane(numbers: &[u32; 8], m: u32) -> Option<usize>
+    ensures { IfSome result (Found numbers.now m) }
 {
-    let mut k = 0;
-    while k < 8 {
-        if numbers[k] == m {
-            return k;
-        }
-        k += 1;
-    }
-    8
+    numbers.iter().position(|n| *n == m)
 }
 
 // Before each child that is seen, in turn: the batch before if child m is in it, or a new one from m on. A batch that was
@@ -71,20 +66,14 @@ pub fn batch_with(
     requires { ForBatch code.now grid parent side m end batch picture.now ends.old choices.old }
     ensures { InBatch code.now grid parent side m ends.new choices.new result }
 {
-    let numbers = batch.numbers;
-    let k = find_lane(numbers, m);
-    if k < 8 {
-        return Batch {
-            numbers: numbers,
-            result: batch.result,
-            lane: k,
-        };
+    if let Some(lane) = find_lane(&batch.numbers, m) {
+        return Batch { lane, ..batch };
     }
-    let listed = seen_from(grid, parent, side, m, end, picture);
-    let result = run_numbered(code, true, grid, parent, side, listed, ends, choices);
+    let numbers = seen_from(grid, parent, side, m, end, picture);
+    let result = run_numbered(code, true, grid, parent, side, numbers, ends, choices);
     Batch {
-        numbers: listed,
-        result: result,
+        numbers,
+        result,
         lane: 0,
     }
 }

@@ -106,10 +106,8 @@ pub fn list_chunks(
 {
     let end = 2 * (parent.zend - parent.z);
     let mut n = 0;
-    let mut m = 0;
-    while m < end {
+    for m in 0..end {
         n = list_chunk(grid, parent, rows, layers, m, n, picture, ys, zs, places);
-        m += 1;
     }
     n
 }

@@ -54,11 +54,9 @@ fn settle_row(
         return 0;
     }
     let mut count: u64 = 0;
-    let mut x = parent.x;
-    while x < parent.xend {
+    for x in parent.x..parent.xend {
         let value = values[(first + (x - parent.x)) as usize];
         count += settle_lane(code, grid, x, y, z, value, picture);
-        x += 1;
     }
     count
 }
@@ -124,13 +122,11 @@ pub fn settle_chunks(
 {
     let end = 2 * (parent.zend - parent.z);
     let mut count: u64 = 0;
-    let mut m = 0;
-    while m < end {
+    for m in 0..end {
         let y = chunk_y(parent, m);
         let z = chunk_z(parent, m);
         let place = places[m as usize];
         count += settle_place(code, grid, parent, y, z, place, res, slots, picture);
-        m += 1;
     }
     count
 }

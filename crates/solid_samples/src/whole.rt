@@ -39,14 +39,14 @@ fn raise(before: [u16; 8], height: u16, values: &[i32; 8]) -> [u16; 8]
     ensures { Raised before height values.now result }
 {
     let mut r = [0u16; 8];
-    let mut k = 0;
-    while k < 8 {
+    for k in 0..8 {
         r[k] = raised(before[k], height, values[k]);
-        k += 1;
     }
     r
 }
 
+// Added one by one, like the places of chunks as numbers: a chain that counts, places that are options and the chunks as one
+// struct were tried, and drawing a solid took 1.08 times as long, a tray 1.19 times.
 fn one_below(now: u16, height: u16) -> u16
     ensures { (result ≡ one_below now height) × (result ≤ 1) }
 {

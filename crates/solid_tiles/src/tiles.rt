@@ -66,13 +66,11 @@ fn tiles(
 {
     let mut count: u64 = 0;
     let end = child_count(parent, 64);
-    let mut m = 0;
-    while m < end {
+    for m in 0..end {
         let cell = child(parent, 64, m);
         count += visit_tile(
             whole, grid, cell, picture, work, first, second, third, choices, below,
         );
-        m += 1;
     }
     count
 }

@@ -1,54 +1,43 @@
 -- The lines of the call in two stages, what none of them refuses has, and the two ends of the call.
-use mathlib.Core.Path.{◌≡◌, refl, sym, ap, ◌∙◌}
+use mathlib.Core.Path.{◌≡◌, refl, ap, ◌∙◌}
 use mathlib.Core.Bool.{true, false, not}
-use mathlib.Core.List.{List, [], ◌∷◌, ◌++◌}
+use mathlib.Core.List.{List}
 use lib.IntN.{ℤ}
-use Prim.Native.Nat.{ℕ, zero, suc, ◌*◌}
+use Prim.Native.Nat.{ℕ, ◌*◌}
 use lib.ListN.{length, take, replicate}
 use lib.Dec.{eqb}
-use Rattle.rules.specs.Values.{first_fault, when}
+use Rattle.rules.specs.Values.{when}
 use Rattle.rules.specs.Tapes.{Tape, read_tape, clause_limit}
 use Rattle.rules.specs.Drawings as D
 use Rattle.rules.specs.Pictures.{picture_size}
 use Rattle.rules.proofs.Lines.{each_line}
-use Rattle.swept_rules.specs.Swept.{offsets_of, path_fault, swept_lines, swept}
+use Rattle.swept_rules.specs.Swept.{offsets_of, swept_lines, swept}
 use Rattle.swept_rules.proofs.Calls as Rules
 use Rattle.code.specs.Unpacking.{Unpacked}
 use Rattle.picture.specs.Shapes.{grid_in}
 use Rattle.picture.specs.declared.grid.Grid.{Grid}
 use Rattle.answers.specs.declared.Answer.{Answer}
-use Rattle.answers.specs.Lines.{length_fault, work_fault, grid_lines, Draws}
-use Rattle.answers.specs.Says.{checked_by}
+use Rattle.answers.specs.Lines.{length_fault, grid_lines, Draws}
+use Rattle.answers.specs.Says.{Checked, checked_by}
 use Rattle.answers.proofs.Ends.{answer, as_it_came, overwritten, no_line, some_line, refused_by, done_by_lem}
+use Rattle.answers.proofs.Chains.{none_holds}
+use Rattle.std.specs.Prelude.{Ok}
 use Rattle.promises.specs.Says.{SweptSays}
 use Rattle.swept_tiles.specs.Looks.{SweptBy}
 use Rattle.drawings.proofs.TapeWords.{words_accepted, words_tape}
 use Rattle.swept_drawing.specs.Swept.{Sweeps, SweptOf}
 
--- A first stage that refuses refuses for all lines.
-first_stops : (a b : List ℕ) → (first_fault a ≡ 0 → ⊥) → first_fault (a ++ b) ≡ first_fault a
-first_stops [] b k = absurd (k refl)
-first_stops (zero ∷ a) b k = first_stops a b k
-first_stops (suc n ∷ a) b k = refl
-
-pub refused_first : (before after s : List ℕ) {r : Answer} → r ≡ checked_by before s → (r.number ≡ 0 → ⊥)
-    → r ≡ checked_by (before ++ after) s
-refused_first before after s e k =
-    e ∙ ap (λ n. record { number = n; place = (read_tape s).place; count = 0 })
-    (sym (first_stops before after (some_line before s e k)))
-
 -- The grid that passes lines 1 to 11.
-pub grid_passed : (s : List ℕ) (d : Grid) {r : Answer} → r ≡ checked_by (grid_lines false s (grid_in d false)) s
-    → r.number ≡ 0 → D.grid_fault false (grid_in d false) ≡ 0
-grid_passed s d e z = each_line (grid_lines false s (grid_in d false)) (no_line (grid_lines false s (grid_in d false)) s e z) 1
+pub grid_passed : {A : Type 0} (s : List ℕ) (d : Grid) {a : A}
+    → Checked (grid_lines false s (grid_in d false)) s (Ok a) → D.grid_fault false (grid_in d false) ≡ 0
+grid_passed s d e =
+    each_line (grid_lines false s (grid_in d false)) (none_holds (grid_lines false s (grid_in d false)) s e) 1
 
--- The lines behind those of the grid, as they are tested: line 12 is that of a solid's heights.
-pub lines_found : (d : Grid) (zs : List ℤ) (n m : ℕ) {a b c : ℕ} → a ≡ path_fault (grid_in d false) zs
-    → b ≡ length_fault true (grid_in d true) n → c ≡ work_fault m
-    → ◌≡◌ {A = List ℕ} (a ∷ (b ∷ (c ∷ [])))
-    (path_fault (grid_in d false) zs ∷ (when (not (eqb n (d.width * d.height))) 12 ∷ (work_fault m ∷ [])))
+-- Line 12 is that of a solid's heights.
+pub pixels_line : (d : Grid) (n : ℕ) {a : ℕ} → a ≡ length_fault true (grid_in d true) n
+    → a ≡ when (not (eqb n (d.width * d.height))) 12
 unfolding picture_size
-lines_found d zs n m e h k = rw (e, h, k)
+pixels_line d n e = e
 
 -- What no line refuses.
 module _ {s : List ℕ} {d : Grid} {zs : List ℤ} {o w : List ℕ} (p : Sweeps s d zs o w) where

@@ -6,16 +6,17 @@ ghost use Rattle.std.specs.Prelude.{◌≡◌, false, length};
 ghost use Rattle.rules.specs.Tapes.{clause_limit};
 ghost use Rattle.swept_rules.specs.Swept.{path_limit, swept_lines};
 ghost use Rattle.picture.specs.Shapes.{grid_in};
-ghost use Rattle.answers.specs.Says.{checked_by};
+ghost use Rattle.answers.specs.Says.{Checked, answer_of};
 ghost use Rattle.promises.specs.Says.{SweptSays};
 ghost use Rattle.swept_drawing.specs.Swept.{Sweeps, SweptOf};
 
-use answers::lines::{check_grid, length_fault, work_fault};
-use answers::{Answer, done, first_fault, refused};
+use answers::Answer;
+use answers::lines::{check_grid, check_length, check_work};
 use code::unpack::unpack_words;
+use faults::Refusal;
 use picture::bits::clear;
 use picture::grid::Grid;
-use swept_path::path::path_fault;
+use swept_path::path::check_path;
 use swept_tiles::tiles::sweep;
 use tape::CLAUSE_LIMIT;
 
@@ -23,21 +24,21 @@ use tape::CLAUSE_LIMIT;
 const PATH_LIMIT: usize = 4096;
 
 // Lines 1 to 11, 25, 12 and 13. On a grid that is refused 25 is not tested, which is defined over its samples.
-fn check_swept(tape: &[u8], grid: Grid, path: &[i32], length: usize, work: usize) -> Answer
-    ensures { result ≡ checked_by
-        (swept_lines tape.now (grid_in grid false) path.now length work) tape.now }
+fn check_swept(
+    tape: &[u8],
+    grid: Grid,
+    path: &[i32],
+    length: usize,
+    work: usize,
+) -> Result<(), Refusal>
+    ensures { Checked
+        (swept_lines tape.now (grid_in grid false) path.now length work) tape.now result }
 {
-    let checked = check_grid(false, tape, grid);
-    if checked.number != 0 {
-        return checked;
-    }
-    let path_line = path_fault(grid, path);
-    let length_line = length_fault(true, grid, length);
-    let work_line = work_fault(work);
-    refused(
-        first_fault(&[checked.number, path_line, length_line, work_line]),
-        checked.place,
-    )
+    check_grid(false, tape, grid)?;
+    check_path(grid, path)?;
+    check_length(true, grid, length)?;
+    check_work(work)?;
+    Ok(())
 }
 
 // The tiles of the tape's words, in buffers that are lent.
@@ -98,6 +99,23 @@ fn sweep_tape(tape: &[u8], grid: Grid, path: &[i32], picture: &mut [u16], work: 
     );
 }
 
+// No clauses are counted.
+fn sweep_checked(
+    tape: &[u8],
+    grid: Grid,
+    path: &[i32],
+    picture: &mut [u16],
+    work: &mut [u8],
+) -> Result<u64, Refusal>
+    ensures { SweptSays tape.now grid path.now picture.old picture.new
+        work.old work.new (answer_of result) }
+{
+    check_swept(tape, grid, path, picture.len(), work.len())?;
+    sweep_tape(tape, grid, path, picture, work);
+    clear(work);
+    Ok(0)
+}
+
 pub fn tile_swept(
     tape: &[u8],
     grid: Grid,
@@ -108,11 +126,5 @@ pub fn tile_swept(
     ensures { SweptSays tape.now grid path.now picture.old picture.new
         work.old work.new result }
 {
-    let checked = check_swept(tape, grid, path, picture.len(), work.len());
-    if checked.number != 0 {
-        return checked;
-    }
-    sweep_tape(tape, grid, path, picture, work);
-    clear(work);
-    done(0)
+    Answer::of(sweep_checked(tape, grid, path, picture, work))
 }

@@ -4,13 +4,11 @@ use mathlib.Core.Bool.{Bool, true, false, ◌&&◌, not}
 use mathlib.Core.List.{List}
 use lib.IntN.{ℤ, pos, ◌-ℤ◌}
 use lib.Signed.{mag}
-use Prim.Native.Nat.{ℕ, ◌+◌, ◌-◌, ◌%◌, ◌^◌, ◌≤◌, ◌<◌}
+use Prim.Native.Nat.{ℕ, ◌+◌, ◌-◌, ◌^◌, ◌≤◌, ◌<◌}
 use native.Mathlib.Omega.{arith}
 use native.Mathlib.Numerals.{add-one}
-use lib.Dec.{eqb, leb}
 use lib.ListN.{length, get_or, drop, drop_of_length-le}
 use lib.Seq.{drop-cons}
-use borrow.Author.Tests.{le-leb, lt-leb, eq-eqb, ne_eqb}
 use mir.Syntax.{w32}
 use mir.Val.{SFits}
 use mir.Facts.{to_z-of_z}
@@ -67,30 +65,9 @@ module _ (grid : Grid) (zs : List ℤ) (e : D.grid_fault false (grid_in grid fal
   same : corner_fault g zs ≡ path_fault g zs
   same = sym (same_fault g zs (accepted_sound g false (accepted grid false e).kind e) (accepted_sized g e))
 
-  pub path_none : length zs < 1 → 25 ≡ path_fault g zs
-  unfolding path_fault whole_path
-  path_none l = rw (lt-leb 1 (length zs) l)
-
-  pub path_long : 1 ≤ length zs → 8192 < length zs → 25 ≡ path_fault g zs
-  unfolding path_fault whole_path
-  path_long k l = rw (le-leb 1 (length zs) k, lt-leb (length zs) 8192 l)
-
-  pub path_odd : 1 ≤ length zs → length zs ≤ 8192 → (length zs % 2 ≡ 0 → ⊥) → 25 ≡ path_fault g zs
-  unfolding path_fault whole_path
-  path_odd k l m = rw (le-leb 1 (length zs) k, le-leb (length zs) 8192 l, ne_eqb (length zs % 2) 0 m)
-
-  pub path_tested : 1 ≤ length zs → length zs ≤ 8192 → length zs % 2 ≡ 0 → {t : Bool} → path_corners g (offsets_of zs) ≡ t
-      → when (not t) 25 ≡ path_fault g zs
-  unfolding corner_fault whole_path
-  path_tested k l m {t} u =
-      ap (λ b. when (not b) 25) (sym u)
-      ∙ tests (leb 1 (length zs)) (leb (length zs) 8192) (eqb (length zs % 2) 0) (path_corners g (offsets_of zs))
-      (le-leb 1 (length zs) k) (le-leb (length zs) 8192 l) (eq-eqb (length zs % 2) 0 m)
-      ∙ same
-    where
-      tests : (a b c d : Bool) → a ≡ true → b ≡ true → c ≡ true
-          → when (not d) 25 ≡ when (not ((a && (b && c)) && d)) 25
-      tests a b c d p q r = rw (p, q, r)
+  pub path_told : {t : Bool} → (whole_path zs && path_corners g (offsets_of zs)) ≡ t → when (not t) 25 ≡ path_fault g zs
+  unfolding corner_fault
+  path_told u = ap (λ b. when (not b) 25) (sym u) ∙ same
 
 -- What a position takes from numbers where the difference is a value.
 pub less : (a b : ℤ) → IsValue (a -ℤ b) → difference a b ≡ a -ℤ b

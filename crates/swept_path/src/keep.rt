@@ -40,21 +40,18 @@ pub fn keep(
         kept.new result }
 {
     let mut count = 0;
-    let mut m = 0;
-    while m < from.len() {
-        let k = from[m];
-        kept[count] = k;
-        let range = range_at(code, bounds, path, k as usize, work);
+    for k in from {
+        kept[count] = *k;
+        let range = range_at(code, bounds, path, *k as usize, work);
         if range.high < 0 {
             if count == 0 {
-                return Cover::Everywhere(k);
+                return Cover::Everywhere(*k);
             }
             return Cover::Partly(count + 1);
         }
         if range.low < 0 {
             count += 1;
         }
-        m += 1;
     }
     if count == 0 {
         return Cover::Nowhere;

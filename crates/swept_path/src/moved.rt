@@ -30,20 +30,15 @@ pub fn moved_sample(s: Sample, o: Offset) -> Sample
     }
 }
 
-// A box less every offset of a hull.
+// A box less every offset of a hull. It has the shape of `moved_sample` and no field, type or operation in common with it.
 pub fn moved_bounds(b: Bounds, h: Hull) -> Bounds
     requires { ForBox (box_in b) (hull_in h) }
     ensures { BoxMoved (box_in b) (hull_in h) (box_in result) }
 {
-    let across = b.xs;
-    let along = b.ys;
-    let zs = b.zs;
-    let east = h.xs;
-    let north = h.ys;
     Bounds {
-        xs: subtract_spans(across, east),
-        ys: subtract_spans(along, north),
-        zs: zs,
+        xs: subtract_spans(b.xs, h.xs),
+        ys: subtract_spans(b.ys, h.ys),
+        zs: b.zs,
     }
 }
 
@@ -58,23 +53,21 @@ pub fn hull_of(o: Offset) -> Hull
         low: o.y,
         high: o.y,
     };
-    Hull { xs: xs, ys: ys }
+    Hull { xs, ys }
 }
 
 fn widen(h: Hull, o: Offset) -> Hull
     ensures { hull_in result ≡ widened (hull_in h) (offset_in o) }
 {
-    let across = h.xs;
-    let along = h.ys;
     let xs = Span {
-        low: minimum(across.low, o.x),
-        high: maximum(across.high, o.x),
+        low: minimum(h.xs.low, o.x),
+        high: maximum(h.xs.high, o.x),
     };
     let ys = Span {
-        low: minimum(along.low, o.y),
-        high: maximum(along.high, o.y),
+        low: minimum(h.ys.low, o.y),
+        high: maximum(h.ys.high, o.y),
     };
-    Hull { xs: xs, ys: ys }
+    Hull { xs, ys }
 }
 
 // The hull of the positions of a list.
@@ -84,10 +77,8 @@ pub fn hull_over(path: &[i32], list: &[u16]) -> Hull
         hull_in result ≡ hull_from os (hull_of (position_at os (get_or list.now 0 0))) (drop 1 list.now) }
 {
     let mut hull = hull_of(position(path, list[0] as usize));
-    let mut m = 1;
-    while m < list.len() {
-        hull = widen(hull, position(path, list[m] as usize));
-        m += 1;
+    for k in &list[1..] {
+        hull = widen(hull, position(path, *k as usize));
     }
     hull
 }

@@ -49,11 +49,8 @@ pub fn sweep_pixels(
         grid (region_in cell) picture.old picture.new }
 {
     let mut slots = [0i32; SLOT_LIMIT];
-    let end = child_count(cell, 1);
-    let mut m = 0;
-    while m < end {
+    for m in 0..child_count(cell, 1) {
         let pixel = child(cell, 1, m);
         sweep_pixel(code, grid, pixel, path, list, picture, &mut slots);
-        m += 1;
     }
 }

@@ -20,11 +20,7 @@ pub fn fill(picture: &mut [u16], grid: Grid, cell: Cell, v: u16)
     ensures { Draws (Constantly v grid (region_in cell)) grid (region_in cell)
         picture.old picture.new }
 {
-    let end = child_count(cell, 1);
-    let mut m = 0;
-    while m < end {
-        let pixel = child(cell, 1, m);
-        put(picture, grid, pixel, v);
-        m += 1;
+    for m in 0..child_count(cell, 1) {
+        put(picture, grid, child(cell, 1, m), v);
     }
 }

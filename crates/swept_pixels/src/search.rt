@@ -10,7 +10,8 @@ use swept_path::moved::moved_sample;
 use swept_path::path::position;
 use tape::SLOT_LIMIT;
 
-// 1 + the number of the first position of the list that covers the sample, or 0.
+// 1 + the number of the first position of the list that covers the sample, or 0. The scope paper gives the form: the search
+// leaves its loop with the number as break value.
 pub fn first_cover(
     code: &[u64],
     s: Sample,

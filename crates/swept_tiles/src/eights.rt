@@ -62,13 +62,10 @@ pub fn eights(
     ensures { Draws (Agrees code.now path.now grid from.now (region_in tile))
         grid (region_in tile) picture.old picture.new }
 {
-    let end = child_count(tile, 8);
-    let mut m = 0;
-    while m < end {
+    for m in 0..child_count(tile, 8) {
         let cell = child(tile, 8, m);
         visit_eight(
             whole, code, grid, cell, path, from, kept, picture, work, second,
         );
-        m += 1;
     }
 }

@@ -16,10 +16,8 @@ fn number(list: &mut [u16], n: usize)
     requires { ForNumbers n list.old }
     ensures { Numbered n list.new }
 {
-    let mut k = 0;
-    while k < n {
+    for k in 0..n {
         list[k] = k as u16;
-        k += 1;
     }
 }
 
@@ -78,13 +76,10 @@ pub fn sweep(
     ensures { SweptBy whole.now path.now grid picture.new }
 {
     let parent = cell_at(grid, 1, 0, 0, 0, 512);
-    let end = child_count(parent, 64);
-    let mut m = 0;
-    while m < end {
+    for m in 0..child_count(parent, 64) {
         let cell = child(parent, 64, m);
         visit_tile(
             whole, grid, cell, path, outer, inner, picture, work, first, second,
         );
-        m += 1;
     }
 }

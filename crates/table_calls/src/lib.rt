@@ -4,9 +4,11 @@
 
 mod lines;
 
+ghost use Rattle.answers.specs.Says.{answer_of};
 ghost use Rattle.promises.specs.Tables.{BeginSays, DrawSays};
 
-use answers::{Answer, done};
+use answers::Answer;
+use faults::Refusal;
 use lines::{check_begin, check_draw};
 use picture::bits::clear;
 use picture::grid::Grid;
@@ -14,15 +16,36 @@ use rectangle::Rectangle;
 use verdict_drawing::draw::draw_rectangle;
 use verdicts::begin;
 
+// It counts nothing.
+fn begin_checked(tape: &[u8], grid: Grid, table: &mut [u8]) -> Result<u64, Refusal>
+    ensures { BeginSays tape.now grid table.old table.new (answer_of result) }
+{
+    check_begin(tape, grid, table.len())?;
+    begin(tape, grid, table);
+    Ok(0)
+}
+
 pub fn table_begin(tape: &[u8], grid: Grid, table: &mut [u8]) -> Answer
     ensures { BeginSays tape.now grid table.old table.new result }
 {
-    let checked = check_begin(tape, grid, table.len());
-    if checked.number != 0 {
-        return checked;
-    }
-    begin(tape, grid, table);
-    checked
+    Answer::of(begin_checked(tape, grid, table))
+}
+
+fn draw_checked(
+    tape: &[u8],
+    grid: Grid,
+    rectangle: Rectangle,
+    table: &mut [u8],
+    picture: &mut [u8],
+    work: &mut [u8],
+) -> Result<u64, Refusal>
+    ensures { DrawSays tape.now grid rectangle table.old table.new
+        picture.old picture.new work.old work.new (answer_of result) }
+{
+    check_draw(tape, grid, rectangle, table, picture.len(), work.len())?;
+    let count = draw_rectangle(tape, grid, rectangle, table, picture, work);
+    clear(work);
+    Ok(count)
 }
 
 pub fn table_draw(
@@ -36,11 +59,5 @@ pub fn table_draw(
     ensures { DrawSays tape.now grid rectangle table.old table.new
         picture.old picture.new work.old work.new result }
 {
-    let refusal = check_draw(tape, grid, rectangle, table, picture.len(), work.len());
-    if refusal.number != 0 {
-        return refusal;
-    }
-    let count = draw_rectangle(tape, grid, rectangle, table, picture, work);
-    clear(work);
-    done(count)
+    Answer::of(draw_checked(tape, grid, rectangle, table, picture, work))
 }

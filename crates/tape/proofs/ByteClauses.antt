@@ -1,18 +1,17 @@
 -- The clauses of a tape's bytes: the signed constant, the clause at a place and those after it.
 use mathlib.Core.Path.{◌≡◌, refl, sym, ap, ap₂, ◌∙◌}
-use mathlib.Core.Bool.{true, false}
+use mathlib.Core.Bool.{Bool, true, false}
 use mathlib.Core.List.{List, [], ◌∷◌}
 use Prim.Native.Nat.{ℕ, zero, suc, ◌+◌, ◌-◌, ◌*◌, ◌≤◌, ◌<◌}
-use native.Mathlib.Nat.{add-zero, zero-add}
+use native.Mathlib.Nat.{add-zero}
 use native.Mathlib.Omega.{arith}
 use native.Mathlib.Numerals.{add-one}
 use lib.Dec.{ltb}
-use lib.IntN.{ℤ, pos, negsuc, ◌-ℤ◌}
+use lib.IntN.{ℤ, pos, negsuc}
 use lib.ListN.{get_or, drop}
 use lib.Seq.{get_or-drop, drop-drop}
 use mir.Syntax.{w32}
-use mir.Val.{SFits, to_z}
-use borrow.Author.Tests.{lt-ltb, le-ltb}
+use mir.Val.{sel, to_z}
 use Rattle.rules.specs.Values.{pick}
 use Rattle.rules.specs.Tapes.{Raw, word, signed4, mark_ok, raw_in, raws_from}
 use Rattle.tape.specs.Clauses.{marked}
@@ -25,39 +24,29 @@ read v = to_z w32 v
 read_is : (v : ℕ) → v < 2147483648 → read v ≡ pos v
 read_is v h = kept_is (pos v) h
 
-under : (d : ℕ) → negsuc 0 -ℤ pos d ≡ negsuc d
-under zero = refl
-under (suc d) = ap (λ x. negsuc (suc x)) (zero-add d)
-
--- Past the half, a constant is counted down from −1.
-past : (v : ℕ) → 2147483648 ≤ v → negsuc 0 -ℤ read (4294967295 - v) ≡ negsuc (4294967295 - v)
-past v h = ap (λ z. negsuc 0 -ℤ z) (read_is (4294967295 - v) (omega arith)) ∙ under (4294967295 - v)
-
-pub past_fits : (v : ℕ) → 2147483648 ≤ v → SFits w32 (negsuc 0 -ℤ read (4294967295 - v))
-past_fits v h = rw (past v h) (record { sfits = omega arith })
-
 abbrev signed_of : ℕ → ℤ
 signed_of v = pick (ltb v 2147483648) (pos v) (negsuc (4294967295 - v))
 
-module _ (s : List ℕ) (i a b : ℕ) (p : a ≡ word i s) (q : b ≡ word (i + 2) s) where
-  same : signed_of (a + 65536 * b) ≡ signed4 i s
-  unfolding signed4
-  same = ap₂ (λ x y. signed_of (x + 65536 * y)) p q
+-- A constant as the library reads its four bytes.
+cast_bits : (v : ℕ) → to_z w32 v ≡ signed_of v
+cast_bits v = go (ltb v 2147483648) (4294967296 - suc v) (4294967295 - v) (omega arith)
+  where
+    go : (t : Bool) (a b : ℕ) → a ≡ b → sel t (pos v) (negsuc a) ≡ pick t (pos v) (negsuc b)
+    go true a b e = refl
+    go false a b e = ap negsuc e
 
-  pub constant_low : a + 65536 * b < 2147483648 → read (a + 65536 * b) ≡ signed4 i s
-  constant_low h =
-      let e : pos (a + 65536 * b) ≡ signed_of (a + 65536 * b) = rw (lt-ltb (a + 65536 * b) 2147483648 h) in
-      read_is (a + 65536 * b) h ∙ e ∙ same
+pub constant_is : (s : List ℕ) (i v : ℕ) → v ≡ word i s + 65536 * word (i + 2) s → to_z w32 v ≡ signed4 i s
+unfolding signed4
+constant_is s i v e = cast_bits v ∙ ap signed_of e
 
-  pub constant_high : 2147483648 ≤ a + 65536 * b
-      → kept (negsuc 0 -ℤ read (4294967295 - (a + 65536 * b))) ≡ signed4 i s
-  constant_high h =
-      let v = a + 65536 * b in
-      let e : negsuc (4294967295 - v) ≡ signed_of v = rw (le-ltb v 2147483648 h) in
-      kept_is (negsuc 0 -ℤ read (4294967295 - v)) (past_fits v h).sfits ∙ past v h ∙ e ∙ same
-
-pub word_is : (s : List ℕ) (i a b : ℕ) → a ≡ get_or s i 0 → b ≡ get_or s (i + 1) 0 → a + 256 * b ≡ word i s
-word_is s i a b p q = rw (p, q, add-one)
+pub four_bytes : (s : List ℕ) (i : ℕ)
+    → get_or s i 0 + get_or s (i + 1) 0 * 256 + get_or s (i + 2) 0 * 65536 + get_or s (i + 3) 0 * 16777216
+    ≡ word i s + 65536 * word (i + 2) s
+four_bytes s i =
+    let p : get_or s (i + 1) 0 ≡ get_or s (suc i) 0 = ap (λ k. get_or s k 0) (add-one i) in
+    let e : i + 3 ≡ suc (i + 2) = omega arith in
+    let q : get_or s (i + 3) 0 ≡ get_or s (suc (i + 2)) 0 = ap (λ k. get_or s k 0) e in
+    omega (arith, p, q)
 
 -- The bytes of a part are those of the whole, further on.
 byte_on : (s : List ℕ) (i k : ℕ) → get_or (drop i s) k 0 ≡ get_or s (i + k) 0
@@ -125,3 +114,15 @@ module _ (s : List ℕ) (k : ℕ) where
   pub raws_over : (i : ℕ) → k ≤ i → left_from s k i ≡ []
   unfolding raws_from
   raws_over i h = let e : k - i ≡ 0 = omega arith in rw e
+
+  -- What is left from the i-th on is what the clauses read before it leave.
+  pub raws_left : (i : ℕ) → i ≤ k → drop i (raws_from k (drop 8 s)) ≡ left_from s k i
+  raws_left zero h = raws_first
+  raws_left (suc i) h =
+      let one : i + 1 ≡ suc i = omega arith in
+      let here : drop i (raws_from k (drop 8 s)) ≡ raw_in (drop (8 + 10 * i) s) ∷ left_from s k (i + 1) =
+      raws_left i (omega arith) ∙ raws_here i (omega arith) in
+      ap (λ x. drop x (raws_from k (drop 8 s))) (sym one)
+      ∙ sym (drop-drop 1 i (raws_from k (drop 8 s)))
+      ∙ ap (drop 1) here
+      ∙ ap (left_from s k) one

@@ -1,7 +1,7 @@
 -- The clauses of a list: the one at a place and those after it; their number; one stored.
-use mathlib.Core.Path.{◌≡◌, refl, ap, ◌∙◌}
+use mathlib.Core.Path.{◌≡◌, refl, sym, ap, ◌∙◌}
 use mathlib.Core.List.{List, [], ◌∷◌}
-use Prim.Native.Nat.{ℕ, suc, ◌+◌, ◌*◌, ◌/◌, ◌≤◌}
+use Prim.Native.Nat.{ℕ, zero, suc, ◌+◌, ◌*◌, ◌/◌, ◌≤◌}
 use native.Mathlib.Nat.{add-zero}
 use native.Mathlib.Omega.{arith}
 use lib.IntN.{ℤ, pos}
@@ -68,6 +68,19 @@ module _ (zs : List ℤ) (k : ℕ) (h : length zs ≡ 5 * k) where
 
   pub raws_count : k ≡ length (raws_of zs)
   raws_count = omega (arith, raws_length zs)
+
+  -- What is left from the i-th on is what the clauses read before it leave.
+  pub raws_after : (i : ℕ) → i ≤ k → drop i (raws_of zs) ≡ raws_of (drop (5 * i) zs)
+  raws_after zero l = refl
+  raws_after (suc i) l =
+      let one : i + 1 ≡ suc i = omega arith in
+      let n : 5 ≤ length (drop (5 * i) zs) = omega (arith, length-drop (5 * i) zs) in
+      ap (λ x. drop x (raws_of zs)) (sym one)
+      ∙ sym (drop-drop 1 i (raws_of zs))
+      ∙ ap (drop 1) (raws_after i (omega arith) ∙ first_raw (drop (5 * i) zs) n)
+      ∙ ap raws_of (drop-drop 5 (5 * i) zs)
+      ∙ raws_next zs i
+      ∙ ap (λ x. raws_of (drop (5 * x) zs)) one
 
 -- A clause's five numbers, stored.
 pub five_stored : (l : List ℤ) (i : ℕ) (f : Fields) → Kept f

@@ -1,18 +1,14 @@
 -- What each writing call stores: runs of bytes one after the other, a constant's four, the head's and a clause's.
-use mathlib.Core.Path.{◌≡◌, refl, sym, ap, ◌∙◌}
-use mathlib.Core.Bool.{true, false, true≢false}
+use mathlib.Core.Path.{◌≡◌, refl, ap, ◌∙◌}
 use mathlib.Core.List.{List, [], ◌∷◌, ◌++◌}
-use Prim.Native.Nat.{ℕ, suc, ◌+◌, ◌-◌, ◌/◌, ◌<◌}
+use Prim.Native.Nat.{ℕ, suc, ◌+◌, ◌/◌}
 use native.Mathlib.Numerals.{add-one}
 use native.Mathlib.Omega.{arith}
-use lib.Dec.{T}
-use lib.IntN.{ℤ, pos, negsuc, nat_abs, ◌-ℤ◌}
-use lib.Signed.{lt_z, non_neg}
+use lib.IntN.{ℤ, pos, negsuc}
 use lib.ListN.{length, set}
 use lib.Seq.{sets}
 use mir.Syntax.{w32}
-use mir.Val.{SFits, Fits}
-use borrow.Author.Tests.{ltb-true, le-ltb}
+use mir.Val.{SFits, of_z}
 use Rattle.rules.specs.Tapes.{nat, raw4, two, four, clause_of, clause_bytes}
 use Rattle.tape.specs.declared.Fields.{Fields}
 use Rattle.tape.specs.Clauses.{raw_of}
@@ -39,56 +35,15 @@ module _ (l o₁ o₂ o₃ o₄ : List ℕ) (i j k m a b c d e f : ℕ) (vs : Li
       let three-runs = and_then l o₂ o₃ (a ∷ (b ∷ (c ∷ (d ∷ [])))) (e ∷ (f ∷ [])) i k two_runs r y in
       and_then l o₃ o₄ (a ∷ (b ∷ (c ∷ (d ∷ (e ∷ (f ∷ [])))))) vs i m three-runs s z
 
--- A constant below 0, and what the code makes of it.
-pub record Negative (z : ℤ) : Type 0 where
-  pub low : ℕ
-  pub bound : low < 2147483648
-  pub is : z ≡ negsuc low
-  pub raised : negsuc 0 -ℤ kept z ≡ pos low
-  pub again : kept (negsuc 0 -ℤ kept z) ≡ pos low
+-- A constant's bits, as the library takes them, and its four bytes.
+bits_are : (z : ℤ) → of_z w32 z ≡ raw4 z
+bits_are (pos a) = refl
+bits_are (negsuc a) = omega arith
 
-pub negative : (z : ℤ) → SFits w32 z → lt_z (kept z) (pos 0) ≡ true → Negative z
-negative (pos a) f t =
-    let e : lt_z (pos a) (pos 0) ≡ true = ap (λ x. lt_z x (pos 0)) (sym (kept_is (pos a) f.sfits)) ∙ t in
-    absurd (omega (arith, ltb-true a 0 e))
-negative (negsuc a) f t =
-    let h : a < 2147483648 = f.sfits in
-    let m : suc a - 1 ≡ a = omega arith in
-    let d : negsuc 0 -ℤ negsuc a ≡ pos a = rw (le-ltb (suc a) 1 (omega arith)) (ap pos m) in
-    let r : negsuc 0 -ℤ kept (negsuc a) ≡ pos a = ap (λ x. negsuc 0 -ℤ x) (kept_is (negsuc a) h) ∙ d in
-    record { low = a; bound = h; is = refl; raised = r; again = ap kept r ∙ kept_is (pos a) h }
-
-module _ (z : ℤ) (n : Negative z) where
-  pub raised_fits : SFits w32 (negsuc 0 -ℤ kept z)
-  raised_fits = rw n.raised (record { sfits = n.bound })
-
-  pub raised_cast : T (non_neg (kept (negsuc 0 -ℤ kept z))) × Fits w32 (nat_abs (kept (negsuc 0 -ℤ kept z)))
-  raised_cast = rw n.again (tt, record { fits = omega (arith, n.bound) })
-
-  pub raised_small : nat_abs (kept (negsuc 0 -ℤ kept z)) < 2147483648
-  raised_small = rw n.again n.bound
-
-  pub negative_bits : 4294967295 - nat_abs (kept (negsuc 0 -ℤ kept z)) ≡ raw4 z
-  negative_bits = ap (λ x. 4294967295 - nat_abs x) n.again ∙ sym (ap raw4 n.is)
-
--- The others are as they are.
-pub record Natural (z : ℤ) : Type 0 where
-  pub small : raw4 z < 2147483648
-  pub is : kept z ≡ pos (raw4 z)
-
-pub natural : (z : ℤ) → SFits w32 z → lt_z (kept z) (pos 0) ≡ false → Natural z
-natural (pos a) f t = record { small = f.sfits; is = kept_is (pos a) f.sfits }
-natural (negsuc a) f t =
-    let e : true ≡ false = ap (λ x. lt_z x (pos 0)) (sym (kept_is (negsuc a) f.sfits)) ∙ t in absurd (true≢false e)
-
-pub natural_cast : (z : ℤ) → Natural z → T (non_neg (kept z)) × Fits w32 (nat_abs (kept z))
-natural_cast z n = rw n.is (tt, record { fits = omega (arith, n.small) })
-
--- A constant's four bytes.
-pub four_stored : (l o₁ o₂ : List ℕ) (i v : ℕ) (z : ℤ) → SFits w32 z → v ≡ raw4 (kept z) → o₁ ≡ sets l i (two v)
+pub four_stored : (l o₁ o₂ : List ℕ) (i v : ℕ) (z : ℤ) → SFits w32 z → v ≡ of_z w32 (kept z) → o₁ ≡ sets l i (two v)
     → o₂ ≡ sets o₁ (i + 2) (two (v / 65536)) → o₂ ≡ sets l i (four z)
 four_stored l o₁ o₂ i v z h e p q =
-    let same : v ≡ raw4 z = e ∙ ap raw4 (kept_is z h.sfits) in
+    let same : v ≡ raw4 z = e ∙ ap (of_z w32) (kept_is z h.sfits) ∙ bits_are z in
     and_then l o₁ o₂ (two v) (two (v / 65536)) i (i + 2) p q refl ∙ ap (λ x. sets l i (two x ++ two (x / 65536))) same
 
 -- A clause's ten, from its fields as they were cast.

@@ -16,22 +16,14 @@ pub fn word_at(s: &[u8], at: usize) -> u32
     requires { at + 2 ≤ length s.now }
     ensures { (result ≡ word at s.now) × (result < 65536) }
 {
-    let low = byte_at(s, at);
-    let high = byte_at(s, at + 1);
-    low + 256 * high
+    u32::from(u16::from_le_bytes([s[at], s[at + 1]]))
 }
 
 pub fn constant_at(s: &[u8], at: usize) -> i32
     requires { at + 4 ≤ length s.now }
     ensures { result ≡ signed4 at s.now }
 {
-    let low = word_at(s, at);
-    let high = word_at(s, at + 2);
-    let v = low + 65536 * high;
-    if v < 2147483648 {
-        return v as i32;
-    }
-    -1 - ((4294967295 - v) as i32)
+    i32::from_le_bytes([s[at], s[at + 1], s[at + 2], s[at + 3]])
 }
 
 pub fn has_mark(s: &[u8], at: usize, mark: &[u8; 2]) -> bool

@@ -6,7 +6,8 @@ pub mod edition;
 pub mod list;
 pub mod write;
 
-// The limits of a tape, of one of edition 01, and the last row of the table of opcodes.
+// The limits of a tape, of one of edition 01, and the table of opcodes: the first that reads left, the first that reads
+// right too, and the last.
 pub const SLOT_LIMIT: usize = 128;
 
 pub const CLAUSE_LIMIT: usize = 6144;
@@ -14,6 +15,10 @@ pub const CLAUSE_LIMIT: usize = 6144;
 pub const FIRST_SLOTS: usize = 64;
 
 pub const FIRST_CLAUSES: usize = 1024;
+
+pub const FIRST_UNARY: i32 = 4;
+
+pub const FIRST_BINARY: i32 = 9;
 
 pub const LAST_OPCODE: i32 = 14;
 

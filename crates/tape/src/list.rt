@@ -24,14 +24,9 @@ pub fn put_numbers(out: &mut [i32], at: usize, f: Fields)
     requires { at + 5 ≤ length out.old }
     ensures { out.new ≡ sets out.old at (five (raw_of f)) }
 {
-    let opcode = f.opcode;
-    let target = f.out;
-    let left = f.left;
-    let right = f.right;
-    let constant = f.constant;
-    out[at] = opcode;
-    out[at + 1] = target;
-    out[at + 2] = left;
-    out[at + 3] = right;
-    out[at + 4] = constant;
+    out[at] = f.opcode;
+    out[at + 1] = f.out;
+    out[at + 2] = f.left;
+    out[at + 3] = f.right;
+    out[at + 4] = f.constant;
 }

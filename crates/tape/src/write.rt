@@ -2,7 +2,7 @@
 // on and leaves every other byte.
 ghost use Rattle.std.specs.Prelude.{◌≡◌, true, [], ◌∷◌, ◌+◌, ◌≤◌, ◌<◌, length};
 ghost use Rattle.std.proofs.lemmas.List.Edits.{sets};
-ghost use Rattle.rules.specs.Tapes.{nat, is_slot, raw4, two, four, head_bytes, clause_of, clause_bytes};
+ghost use Rattle.rules.specs.Tapes.{nat, is_slot, two, four, head_bytes, clause_of, clause_bytes};
 ghost use Rattle.tape.specs.Clauses.{mark_of, raw_of, InBytes};
 
 use crate::Fields;
@@ -28,26 +28,15 @@ pub fn put_word(out: &mut [u8], at: usize, v: u32)
     requires { at + 2 ≤ length out.old }
     ensures { out.new ≡ sets out.old at (two v) }
 {
-    let low = (v % 256) as u8;
-    let high = (v / 256 % 256) as u8;
-    put_pair(out, at, low, high)
-}
-
-// A signed number's four bytes as one number.
-fn bits_of(v: i32) -> u32
-    ensures { result ≡ raw4 v }
-{
-    if v < 0 {
-        return 4294967295 - ((-1 - v) as u32);
-    }
-    v as u32
+    let bytes = v.to_le_bytes();
+    put_pair(out, at, bytes[0], bytes[1])
 }
 
 pub fn put_constant(out: &mut [u8], at: usize, v: i32)
     requires { at + 4 ≤ length out.old }
     ensures { out.new ≡ sets out.old at (four v) }
 {
-    let bits = bits_of(v);
+    let bits = v.cast_unsigned();
     put_word(out, at, bits);
     put_word(out, at + 2, bits / 65536)
 }
@@ -79,9 +68,8 @@ pub fn put_clause(out: &mut [u8], at: usize, f: Fields)
     let target = byte_of(f.out);
     let left = byte_of(f.left);
     let right = byte_of(f.right);
-    let constant = f.constant;
     put_mark(out, at, b"CL");
     put_pair(out, at + 2, opcode, target);
     put_pair(out, at + 4, left, right);
-    put_constant(out, at + 6, constant)
+    put_constant(out, at + 6, f.constant)
 }

@@ -1,6 +1,6 @@
 -- Lines 5 to 9 of the refusals at one clause, from the tests of its fields.
 use mathlib.Core.Path.{◌≡◌, ap, ◌∙◌}
-use mathlib.Core.Bool.{Bool, true, false, ◌&&◌, ◌||◌, not, and-eq-true_iff}
+use mathlib.Core.Bool.{Bool, true, false, ◌&&◌, ◌||◌, not, and_assoc, and-eq-true_iff}
 use mathlib.Core.List.{List}
 use Prim.Native.Nat.{ℕ, ◌≤◌}
 use lib.IntN.{ℤ, nat_abs}
@@ -13,6 +13,10 @@ use Rattle.rules.specs.Tapes.{bad_slot, bad_unused, bad_constant, bad_read, clau
 use Rattle.tape.specs.declared.Fields.{Fields}
 use Rattle.tape.specs.Clauses.{raw_of}
 use Rattle.tape.proofs.FieldValues.{Kept, kept, slot_nat, wider}
+
+-- Tests in one row, as the code makes them, and nested, as the rules state them.
+pub row : (a b c d : Bool) → (((a && b) && c) && d) ≡ (a && (b && (c && d)))
+row a b c d = and_assoc (a && b) c d ∙ and_assoc a b (c && d)
 
 -- Where line 6 does not hold, out is a slot, and so is each side that is used.
 slots_used : (n : ℕ) (c : Raw) → bad_slot n c ≡ false
@@ -40,20 +44,21 @@ not_read u b e = rw e
 module _ (f : Fields) (k : Kept f) where
   pub slot_line : (n : ℕ) (o u l v r : Bool) → o ≡ is_slot n (kept f.out) → u ≡ uses_left (nat (kept f.opcode))
       → l ≡ is_slot n (kept f.left) → v ≡ uses_right (nat (kept f.opcode)) → r ≡ is_slot n (kept f.right)
-      → not (o && ((not u || l) && (not v || r))) ≡ bad_slot n (raw_of f)
+      → not ((o && (not u || l)) && (not v || r)) ≡ bad_slot n (raw_of f)
   unfolding bad_slot
-  slot_line n o u l v r p q s t w = cc (k.opcode, k.out, k.left, k.right)
+  slot_line n o u l v r p q s t w =
+      ap not (and_assoc o (not u || l) (not v || r)) ∙ cc (k.opcode, k.out, k.left, k.right)
 
-  pub unused_line : (u l v r o c : Bool) → u ≡ uses_left (nat (kept f.opcode)) → l ≡ is_zero (kept f.left)
-      → v ≡ uses_right (nat (kept f.opcode)) → r ≡ is_zero (kept f.right) → o ≡ eqb (nat (kept f.opcode)) 0
-      → c ≡ is_zero (kept f.constant) → not ((u || l) && ((v || r) && (o || c))) ≡ bad_unused (raw_of f)
+  pub unused_line : (u l v r o c : Bool) → u ≡ uses_left (nat (kept f.opcode)) → l ≡ is_zero f.left
+      → v ≡ uses_right (nat (kept f.opcode)) → r ≡ is_zero f.right → o ≡ eqb (nat (kept f.opcode)) 0
+      → c ≡ is_zero f.constant → not (((u || l) && (v || r)) && (o || c)) ≡ bad_unused (raw_of f)
   unfolding bad_unused
-  unused_line u l v r o c p q s t w x = cc (k.opcode, k.left, k.right, k.constant)
+  unused_line u l v r o c p q s t w x = ap not (and_assoc (u || l) (v || r) (o || c)) ∙ cc k.opcode
 
-  pub constant_line : (o c : Bool) → o ≡ eqb (nat (kept f.opcode)) 0 → c ≡ least_word (kept f.constant)
+  pub constant_line : (o c : Bool) → o ≡ eqb (nat (kept f.opcode)) 0 → c ≡ least_word f.constant
       → (o && c) ≡ bad_constant (raw_of f)
   unfolding bad_constant
-  constant_line o c p q = cc (k.opcode, k.constant)
+  constant_line o c p q = cc k.opcode
 
   pub read_line : (ns : List ℕ) (u l v r : Bool) → u ≡ uses_left (nat (kept f.opcode))
       → l ≡ (u && not (is_in (nat (kept f.left)) ns)) → v ≡ uses_right (nat (kept f.opcode))

@@ -43,19 +43,13 @@ opcode_at_lem (negsuc a) = refl
 pub opcode_test : (z : ℤ) → SFits w32 z → (le_z (pos 0) (kept z) && le_z (kept z) (pos last_opcode)) ≡ is_opcode z
 opcode_test z f = ap (λ x. le_z (pos 0) x && le_z x (pos last_opcode)) (to_z-of_z f) ∙ opcode_at_lem z
 
-zero_at_lem : (z : ℤ) → mag z < 2147483648 → eqb (of_z w32 z) 0 ≡ is_zero z
-zero_at_lem (pos a) h = refl
-zero_at_lem (negsuc a) h = ne_eqb (4294967296 - suc a) 0 (λ e. omega arith)
+pub zero_test : (z : ℤ) → mag z < 2147483648 → eqb (of_z w32 z) 0 ≡ is_zero z
+zero_test (pos a) h = refl
+zero_test (negsuc a) h = ne_eqb (4294967296 - suc a) 0 (λ e. omega arith)
 
-pub zero_test : (z : ℤ) → SFits w32 z → eqb (of_z w32 z) 0 ≡ is_zero z
-zero_test z f = zero_at_lem z f.sfits
-
-least_at : (z : ℤ) → mag z < 2147483648 → eqb (of_z w32 z) 2147483648 ≡ least_word z
-least_at (pos a) h = ne_eqb a 2147483648 (λ e. omega arith)
-least_at (negsuc a) h = same_eqb (4294967296 - suc a) 2147483648 a 2147483647 (λ e. omega arith) (λ e. omega arith)
-
-pub least_test : (z : ℤ) → SFits w32 z → eqb (of_z w32 z) 2147483648 ≡ least_word z
-least_test z f = least_at z f.sfits
+pub least_test : (z : ℤ) → mag z < 2147483648 → eqb (of_z w32 z) 2147483648 ≡ least_word z
+least_test (pos a) h = ne_eqb a 2147483648 (λ e. omega arith)
+least_test (negsuc a) h = same_eqb (4294967296 - suc a) 2147483648 a 2147483647 (λ e. omega arith) (λ e. omega arith)
 
 slot_at : (n : ℕ) (z : ℤ) → (le_z (pos 0) z && lt_z z (pos n)) ≡ is_slot n z
 slot_at n (pos a) = rw leb-zero

@@ -1,6 +1,11 @@
 // A plate of 70 by 2 pixels, two tiles: parts come and go, and places of other bytes are told.
 use figure_lines::{given, say};
-use layers::{pack_tape, plate_add, plate_remove};
+use layers::{plate_add, plate_remove};
+
+// The memory of an empty plate.
+fn plate() -> [u8; 524288] {
+    given::filled(0)
+}
 
 fn add(what: &[u8], memory: &mut [u8], place: u32, tape: &[u8], picture: &mut [u8]) {
     let grid = given::grid(70, 2, 0);
@@ -19,18 +24,11 @@ fn remove(what: &[u8], memory: &mut [u8], place: u32, picture: &mut [u8]) {
     say::bytes(picture);
 }
 
-fn put(memory: &mut [u8], at: usize, byte: u8) {
-    if at < memory.len() {
-        memory[at] = byte;
-    }
-}
-
 // Where x is below 2, and where it is above 66: each touches one tile. Bytes of a tile that is not touched stay.
 pub fn come_and_go() {
     let list = [1i32, 0, 0, 0, 0, 0, 1, 0, 0, 4325376, 10, 0, 1, 0, 0];
-    let mut above = [255u8; 38];
-    say::answer(b"66 less x", pack_tape(2, &list, &mut above));
-    let mut memory = given::plate();
+    let above: [u8; 38] = given::packed(b"66 less x", 2, &list);
+    let mut memory = plate();
     let mut picture = [0u8; 18];
     add(
         b"x less 2 to place 3",
@@ -53,12 +51,12 @@ pub fn come_and_go() {
 // A stray 1 at the end of place 2, which is empty; and slot 7 in clause 2 of place 4, of two slots.
 pub fn other_bytes() {
     let tape = given::tape(1);
-    let mut memory = given::plate();
+    let mut memory = plate();
     let mut picture = [0u8; 18];
-    put(&mut memory, 196607, 1);
+    memory[196607] = 1;
     add(b"a stray 1", &mut memory, 0, &tape, &mut picture);
-    put(&mut memory, 196607, 0);
+    memory[196607] = 0;
     add(b"none", &mut memory, 4, &tape, &mut picture);
-    put(&mut memory, 262177, 7);
+    memory[262177] = 7;
     remove(b"slot 7", &mut memory, 4, &mut picture);
 }

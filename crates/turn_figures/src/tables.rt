@@ -1,14 +1,26 @@
 // The table of verdicts that two users share: x less 2, drawn by one and then by the other, and what is refused; and a
 // disc, four rectangles of its tiles in turn.
 use figure_lines::{given, say};
-use layers::{pack_tape, table_begin, table_draw};
+use layers::{Rectangle, table_begin, table_draw};
 
-// Some bytes of a table.
-fn part(table: &[u8], from: u32, count: u8) {
-    let start = from as usize;
-    let end = start + count as usize;
-    if end <= table.len() {
-        say::bytes(&table[start..end]);
+// The bytes of a table, of what stands before its entries, and of an entry.
+const TABLE: usize = 163936;
+
+const BEFORE: usize = 65568;
+
+const ENTRY: usize = 1537;
+
+// A table that is not clear.
+fn table() -> [u8; TABLE] {
+    given::filled(255)
+}
+
+// The beginnings of the first entries.
+fn entries(table: &[u8; TABLE], count: usize, bytes: usize) {
+    for entry in table[BEFORE..].chunks_exact(ENTRY).take(count) {
+        if let Some(beginning) = entry.get(..bytes) {
+            say::bytes(beginning);
+        }
     }
 }
 
@@ -34,29 +46,21 @@ fn draw(what: &[u8], axis: u8, columns: u32, table: &mut [u8]) {
 // The first draws, the second finds the verdict; the entry; then no tile, a tile too many, and another tape.
 pub fn two_users() {
     let tape = given::tape(1);
-    let mut table = given::table();
+    let mut table = table();
     say::answer(
         b"table begun",
         table_begin(&tape, given::grid(3, 2, 0), &mut table),
     );
     draw(b"by the writer", 1, 1, &mut table);
     draw(b"by the preview", 1, 1, &mut table);
-    part(&table, 65568, 3);
+    entries(&table, 1, 3);
     draw(b"no tile", 1, 0, &mut table);
     draw(b"a tile too many", 1, 2, &mut table);
     draw(b"with another tape", 2, 1, &mut table);
 }
 
 // root((x − 60)² + (y − 40)²) − 30, in units of 1/65,536, on a grid of 100 by 70: two by two tiles.
-fn draw_disc(
-    what: &[u8],
-    tape: &[u8],
-    column: u32,
-    row: u32,
-    columns: u32,
-    rows: u32,
-    table: &mut [u8],
-) {
+fn draw_disc(what: &[u8], tape: &[u8], tiles: Rectangle, table: &mut [u8]) {
     let mut work = given::work();
     let mut picture = [255u8; 910];
     say::answer(
@@ -64,7 +68,7 @@ fn draw_disc(
         table_draw(
             tape,
             given::grid(100, 70, 0),
-            given::rectangle(column, row, columns, rows),
+            tiles,
             table,
             &mut picture,
             &mut work,
@@ -73,34 +77,25 @@ fn draw_disc(
 }
 
 fn draw_in_turn(tape: &[u8], table: &mut [u8]) {
-    draw_disc(b"tile 0", tape, 0, 0, 1, 1, table);
-    draw_disc(b"tiles 0, 1", tape, 0, 0, 2, 1, table);
-    draw_disc(b"tiles 0 to 3", tape, 0, 0, 2, 2, table);
-    draw_disc(b"tile 3", tape, 1, 1, 1, 1, table);
+    draw_disc(b"tile 0", tape, given::rectangle(0, 0, 1, 1), table);
+    draw_disc(b"tiles 0, 1", tape, given::rectangle(0, 0, 2, 1), table);
+    draw_disc(b"tiles 0 to 3", tape, given::rectangle(0, 0, 2, 2), table);
+    draw_disc(b"tile 3", tape, given::rectangle(1, 1, 1, 1), table);
 }
 
-// The beginnings of the first five entries: the fifth is of no tile.
-fn entries(table: &[u8]) {
-    part(table, 65568, 5);
-    part(table, 67105, 5);
-    part(table, 68642, 5);
-    part(table, 70179, 5);
-    part(table, 71716, 5);
-}
-
+// The fifth entry is of no tile.
 pub fn disc() {
     let list = [
         1i32, 0, 0, 0, 0, 0, 1, 0, 0, 3932160, 10, 0, 0, 1, 0, 7, 0, 0, 0, 0, 2, 1, 0, 0, 0, 0, 2,
         0, 0, 2621440, 10, 1, 1, 2, 0, 7, 1, 1, 0, 0, 9, 0, 0, 1, 0, 8, 0, 0, 0, 0, 0, 1, 0, 0,
         1966080, 10, 0, 0, 1, 0,
     ];
-    let mut tape = [255u8; 128];
-    say::answer(b"the disc", pack_tape(3, &list, &mut tape));
-    let mut table = given::table();
+    let tape: [u8; 128] = given::packed(b"the disc", 3, &list);
+    let mut table = table();
     say::answer(
         b"its table begun",
         table_begin(&tape, given::grid(100, 70, 0), &mut table),
     );
     draw_in_turn(&tape, &mut table);
-    entries(&table);
+    entries(&table, 5, 5);
 }

@@ -2,14 +2,14 @@
 use mathlib.Core.Path.{◌≡◌, refl, sym, ap, subst, ◌∙◌}
 use mathlib.Core.Bool.{Bool, true, false, ◌&&◌, false≢true}
 use mathlib.Core.List.{List}
-use Prim.Native.Nat.{ℕ, zero, suc, ◌+◌, ◌*◌, ◌/◌, ◌%◌, ◌<◌, ◌≤◌}
+use Prim.Native.Nat.{ℕ, zero, suc, min, ◌+◌, ◌*◌, ◌/◌, ◌%◌, ◌<◌, ◌≤◌}
 use native.Mathlib.Nat.{div-add-mod', mod-lt, div-lt_iff_lt-mul, zero-add, mul-le-mul}
 use native.Mathlib.Decide.{dec_lt}
 use native.Mathlib.Omega.{arith}
 use lib.Dec.{leb}
 use lib.ListN.{length, get_or, replicate}
 use lib.Seq.{ext_get_or}
-use borrow.Author.Tests.{leb-true, ltb-true, le-leb, lt-ltb}
+use borrow.Author.Tests.{leb-true, leb-false, ltb-true, le-leb, lt-ltb}
 use Rattle.rules.specs.Values.{pick}
 use Rattle.rules.specs.Tapes.{Tape}
 use Rattle.rules.specs.Drawings.{lesser, grid_fault}
@@ -33,6 +33,15 @@ use Rattle.table_rules.specs.Tables.{entry_in, entry_ok, entries_ok, from, byte_
 use Rattle.table_rules.proofs.Numbers.{in_tiles}
 use Rattle.table_rules.proofs.Part.{laid_at, laid_size}
 use Rattle.verdict_drawing.specs.Rects.{InGrid, TilesShared, TurnDrawn, LaidOver}
+
+-- The least of two numbers, as the library has it.
+pub least : (a b : ℕ) {e : ℕ} → e ≡ min a b → e ≡ lesser a b
+unfolding lesser
+least a b {e} h = go (leb a b) refl
+  where
+    go : (t : Bool) → leb a b ≡ t → e ≡ pick t a b
+    go true k = omega (arith, leb-true a b k)
+    go false k = omega (arith, leb-false a b k)
 
 -- From heights of 0.
 module _ {whole : List ℕ} {grid : Grid} {q : Rectangle} {t t' b b' : List ℕ} {c : ℕ}

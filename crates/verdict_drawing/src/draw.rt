@@ -15,7 +15,6 @@ use picture::bits::clear;
 use picture::grid::Grid;
 use rectangle::Rectangle;
 use tape::CLAUSE_LIMIT;
-use walk::cell::lesser;
 
 // As many bytes as any flat picture has.
 const PICTURE_LIMIT: usize = 32768;
@@ -66,8 +65,8 @@ fn lay(drawn: &[u8], picture: &mut [u8], grid: Grid, rectangle: Rectangle)
 {
     let x = 64 * rectangle.column;
     let y = 64 * rectangle.row;
-    let xend = lesser(grid.width, x + 64 * rectangle.columns);
-    let yend = lesser(grid.height, y + 64 * rectangle.rows);
+    let xend = grid.width.min(x + 64 * rectangle.columns);
+    let yend = grid.height.min(y + 64 * rectangle.rows);
     copy_part(
         drawn,
         picture,

@@ -39,14 +39,11 @@ fn table_tiles(
         picture.old picture.new result }
 {
     let mut count: u64 = 0;
-    let end = rectangle.rows * rectangle.columns;
-    let mut k = 0;
-    while k < end {
+    for k in 0..rectangle.rows * rectangle.columns {
         let number = number_in(grid, rectangle, k);
         count += table_tile(
             whole, grid, number, table, picture, work, first, second, slots, choices,
         );
-        k += 1;
     }
     count
 }

@@ -3,9 +3,8 @@ ghost use Rattle.std.specs.Prelude.{◌≡◌, ◌∷◌, ◌+◌, ◌<◌, ◌�
 ghost use Rattle.table_rules.specs.Tables.{tile_limit, entry_at, entry_length, mark_room, padded};
 ghost use Rattle.verdict_entries.specs.Entries.{over};
 
-const HEAD_LENGTH: usize = 65568;
-
-const ENTRY_LENGTH: usize = 1537;
+use picture::bits::clear;
+use verdicts::{ENTRY_LENGTH, HEAD_LENGTH};
 
 pub fn entry_at(tile: u32) -> usize
     requires { tile < tile_limit }
@@ -14,17 +13,15 @@ pub fn entry_at(tile: u32) -> usize
     HEAD_LENGTH + ENTRY_LENGTH * tile as usize
 }
 
-// The byte p of an entry: the verdict, the bytes of the marks, and zeros behind them.
-fn entry_byte(verdict: u8, marks: &[u8], p: usize) -> u8
-    ensures { result ≡ get_or (verdict ∷ padded marks.now) p 0 }
+// The bytes of an entry: the verdict, those of the marks, and zeros behind them.
+fn fill_entry(entry: &mut [u8], verdict: u8, marks: &[u8])
+    requires entry_len { length entry.old ≡ entry_length }
+    requires marks_fit { length marks.now ≤ mark_room }
+    ensures { entry.new ≡ verdict ∷ padded marks.now }
 {
-    if p == 0 {
-        return verdict;
-    }
-    if p <= marks.len() {
-        return marks[p - 1];
-    }
-    0
+    clear(entry);
+    entry[0] = verdict;
+    entry[1..1 + marks.len()].copy_from_slice(marks)
 }
 
 // The whole entry is written.
@@ -33,10 +30,5 @@ pub fn put_entry(table: &mut [u8], at: usize, verdict: u8, marks: &[u8])
     requires marks_fit { length marks.now ≤ mark_room }
     ensures { table.new ≡ over at (verdict ∷ padded marks.now) table.old }
 {
-    let mut p = 0;
-    while p < ENTRY_LENGTH {
-        let byte = entry_byte(verdict, marks, p);
-        table[at + p] = byte;
-        p += 1;
-    }
+    fill_entry(&mut table[at..at + ENTRY_LENGTH], verdict, marks)
 }

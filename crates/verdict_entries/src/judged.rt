@@ -8,19 +8,21 @@ ghost use Rattle.shortening.specs.Kept.{mark_room};
 ghost use Rattle.picture.specs.Shapes.{grid_in};
 ghost use Rattle.walk.specs.Cells.{region_in};
 ghost use Rattle.table_rules.specs.Tables.{tile_of, entry_of, put_entry};
+ghost use Rattle.verdicts.specs.Verdicts.{byte_of};
 ghost use Rattle.verdict_entries.specs.Entries.{ForVerdict, VerdictOn, ForEntry, Met};
 
 use crate::entry::{entry_at, put_entry};
 use picture::grid::Grid;
 use plate_tiles::tiles::tile;
 use shortening::marks::mark_room;
+use verdicts::verdict::Verdict;
 use walk::cell::{Cell, flat_bounds};
 use walk::judge::{Outcome, judge};
 
-// 1 full, 2 empty, 3 cut: then the bytes of the tile's marks stand in the work buffer behind the choices.
-fn tile_verdict(whole: &[u64], grid: Grid, cell: Cell, work: &mut [u8], next: &mut [u64]) -> u8
+// Of a tile that is cut a short tape is kept: the bytes of its marks stand in the work buffer behind the choices.
+fn tile_verdict(whole: &[u64], grid: Grid, cell: Cell, work: &mut [u8], next: &mut [u64]) -> Verdict
     requires { ForVerdict whole.now grid cell work.old next.old }
-    ensures { VerdictOn whole.now grid (region_in cell) work.new result }
+    ensures { VerdictOn whole.now grid (region_in cell) work.new (byte_of result) }
 {
     let judged = judge(
         whole,
@@ -30,23 +32,22 @@ fn tile_verdict(whole: &[u64], grid: Grid, cell: Cell, work: &mut [u8], next: &m
         whole.len(),
         next,
     );
-    let outcome = judged.outcome;
-    match outcome {
-        Outcome::Full => 1,
-        Outcome::Empty => 2,
-        Outcome::Cut(_) => 3,
+    match judged.outcome {
+        Outcome::Full => Verdict::Full,
+        Outcome::Empty => Verdict::Empty,
+        Outcome::Cut(_) => Verdict::Kept,
     }
 }
 
-// How many bytes of marks an entry has: those of all clauses with verdict 3, else none.
-fn kept_room(verdict: u8, count: usize) -> usize
+// How many bytes of marks an entry has: those of all clauses of a tape that is kept, else none.
+fn kept_room(verdict: Verdict, count: usize) -> usize
     requires { count ≤ clause_limit }
-    ensures { result ≡ pick (eqb verdict 3) (mark_room count) 0 }
+    ensures { result ≡ pick (eqb (byte_of verdict) 3) (mark_room count) 0 }
 {
-    if verdict == 3 {
-        return mark_room(count);
+    match verdict {
+        Verdict::Kept => mark_room(count),
+        _ => 0,
     }
-    0
 }
 
 fn write_entry(
@@ -68,7 +69,7 @@ fn write_entry(
     let verdict = tile_verdict(whole, grid, cell, work, next);
     let base = whole.len();
     let end = base + kept_room(verdict, base);
-    put_entry(table, entry_at(number), verdict, &work[base..end])
+    put_entry(table, entry_at(number), u8::from(verdict), &work[base..end])
 }
 
 // "Whoever meets an unknown tile writes the verdict": returned are the clauses of its own run, 0 if it was known.
@@ -83,8 +84,7 @@ pub fn meet(
     requires { ForEntry whole.now grid number table.old work.old next.old }
     ensures { Met whole.now grid number table.old table.new result }
 {
-    let verdict = table[entry_at(number)];
-    if verdict != 0 {
+    if table[entry_at(number)] != u8::from(Verdict::Unknown) {
         return 0;
     }
     write_entry(whole, grid, number, table, work, next);

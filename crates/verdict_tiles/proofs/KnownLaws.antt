@@ -1,5 +1,5 @@
 -- A known tile: the words that its entry keeps, and what its verdict draws.
-use mathlib.Core.Path.{◌≡◌, sym, ap, subst, ◌∙◌}
+use mathlib.Core.Path.{◌≡◌, refl, sym, ap, subst, ◌∙◌}
 use mathlib.Core.Bool.{Bool, true, false, ◌||◌, not}
 use mathlib.Core.List.{List, [], ◌∷◌}
 use Prim.Native.Nat.{ℕ, ◌+◌, ◌-◌, ◌*◌, ◌<◌, ◌≤◌}
@@ -35,6 +35,16 @@ use Rattle.table_rules.specs.Tables.{tile_limit, entry_at, tile_of, entry_in, ve
 use Rattle.table_rules.proofs.Passed.{kept_accepted}
 use Rattle.verdict_entries.specs.Entries.{entry_from, KeptFrom}
 use Rattle.verdict_tiles.specs.Shares.{Passed, TileBlank, TileApart, KnownDrawn}
+use Rattle.verdicts.specs.Verdicts.{byte_of}
+use Rattle.verdicts.specs.declared.verdict.Verdict.{Verdict}
+use Rattle.verdicts.specs.declared.verdict.Verdict.TheVariants as V
+
+-- A verdict that is known, and neither full nor empty.
+pub kept_three : (v : Verdict) → (v ≡ V.Full → ⊥) → (v ≡ V.Empty → ⊥) → (byte_of v ≡ 0 → ⊥) → byte_of v ≡ 3
+kept_three V.Unknown f e n = absurd (n refl)
+kept_three V.Full f e n = absurd (f refl)
+kept_three V.Empty f e n = absurd (e refl)
+kept_three V.Kept f e n = refl
 
 -- What an entry that passes says.
 module _ {n : ℕ} {whole table : List ℕ} (p : Passed n whole table) {i : ℕ} (l : i < tile_limit) where

@@ -1,6 +1,7 @@
 // A tile by its entry.
-ghost use Rattle.std.specs.Prelude.{◌≡◌, length};
+ghost use Rattle.std.specs.Prelude.{◌≡◌, ◌<◌, ◌≤◌, length, get_or};
 ghost use Rattle.sweep.specs.Chunks.{block_rows};
+ghost use Rattle.verdicts.specs.Verdicts.{byte_of};
 ghost use Rattle.verdict_tiles.specs.Shares.{ForKnown, ForShared, KnownDrawn, TileShared, TileApart};
 
 use flat_eights::eights::eights;
@@ -11,6 +12,16 @@ use sweep::BLOCK;
 use verdict_entries::entry::entry_at;
 use verdict_entries::judged::meet;
 use verdict_entries::kept::kept_words;
+use verdicts::verdict::Verdict;
+
+// An entry of a table that passes says one of the verdicts.
+fn verdict_at(table: &[u8], at: usize) -> Verdict
+    requires at_in_table { at < length table.now }
+    requires says_one { get_or table.now at 0 ≤ 3 }
+    ensures { byte_of result ≡ get_or table.now at 0 }
+{
+    Verdict::try_from(table[at]).unwrap_or(Verdict::Unknown)
+}
 
 // A known tile, with no run of the region of side 64: full, empty, or the kept tape on the regions of side 8.
 fn known_tile(
@@ -34,19 +45,20 @@ fn known_tile(
 {
     let cell = tile(grid, number);
     let at = entry_at(number);
-    let verdict = table[at];
-    if verdict == 1 {
-        fill(grid, cell, picture);
-        return 0;
+    match verdict_at(table, at) {
+        Verdict::Full => {
+            fill(grid, cell, picture);
+            0
+        }
+        Verdict::Empty => 0,
+        _ => {
+            let start = kept_words(whole, table, at, work, first);
+            let kept = &first[start..];
+            eights(
+                whole, kept, grid, cell, picture, work, second, slots, choices,
+            )
+        }
     }
-    if verdict == 2 {
-        return 0;
-    }
-    let start = kept_words(whole, table, at, work, first);
-    let kept = &first[start..];
-    eights(
-        whole, kept, grid, cell, picture, work, second, slots, choices,
-    )
 }
 
 // A tile that the table knows or not: an unknown one is judged and written first, and its own run counted.

@@ -13,7 +13,17 @@ use Rattle.rules.specs.Tapes.{Tape, read_tape}
 use Rattle.rules.specs.Drawings.{Grid}
 use Rattle.picture.proofs.Answers.{stops, goes_on_lem}
 use Rattle.table_rules.specs.Tables.{head_length, entry_length, tile_limit, table_length, entry_at, entry_in, verdict_in}
+use Rattle.verdicts.specs.Verdicts.{byte_of}
+use Rattle.verdicts.specs.declared.verdict.Verdict.{Verdict}
+use Rattle.verdicts.specs.declared.verdict.Verdict.TheVariants.{Unknown, Full, Empty, Kept}
 use Rattle.table_rules.specs.Tables.{marks_in, kept_ok, entry_ok, entries_ok, same_bytes, table_head, table_ok}
+
+-- Each verdict but the last is below it.
+pub below_kept : (v : Verdict) → (v ≡ Kept → ⊥) → byte_of v < 3
+below_kept Unknown n = omega arith
+below_kept Full n = omega arith
+below_kept Empty n = omega arith
+below_kept Kept n = absurd (n refl)
 
 module _ (t : Tape) (e : List ℕ) where
   pub entry_above : 3 < verdict_in e → false ≡ entry_ok t e

@@ -1,15 +1,17 @@
 -- The table's head as it is written, and two lists of bytes compared.
 use mathlib.Core.Path.{◌≡◌, refl, sym, ap, ap₂, ◌∙◌}
-use mathlib.Core.Bool.{Bool, true, false, ◌&&◌}
+use mathlib.Core.Bool.{Bool}
 use mathlib.Core.List.{List, [], ◌∷◌, ◌++◌, append-nil, append_assoc}
 use lib.IntN.{ℤ, pos}
-use Prim.Native.Nat.{ℕ, suc, ◌+◌, ◌-◌, ◌*◌, ◌/◌, ◌%◌, ◌<◌, ◌≤◌}
+use Prim.Native.Nat.{ℕ, ◌+◌, ◌-◌, ◌*◌, ◌/◌, ◌%◌, ◌≤◌}
 use native.Mathlib.Omega.{arith}
-use native.Mathlib.Numerals.{add-one}
 use lib.Dec.{eqb}
-use lib.ListN.{length, get_or, take, drop, replicate, length-append, length-replicate, length-drop, replicate-append-replicate}
-use lib.Seq.{sets, sets-eq, drop-cons, drop-length, take_all, take_at, drop_at, length-take-le, get_or-take}
-use borrow.Author.Tests.{eq-eqb, ne_eqb}
+use lib.ListN.{length, take, drop, replicate, length-append, length-replicate, length-drop, replicate-append-replicate}
+use lib.Seq.{sets, sets-eq, drop-length, take_all, take_at, drop_at, length-take-le}
+use borrow.Author.Rules.{rules}
+use Rattle.std.specs.Cmp.Lexicographic.{pointwise}
+use Rattle.std.proofs.lemmas.Bool.Decides.{same_from_decides, Decides-eqb}
+use Rattle.std.proofs.lemmas.Slice.Eq.{slice_eq-Decides, compares_Decides}
 use Rattle.rules.specs.Tapes.{two, four}
 use Rattle.rules.specs.Drawings.{Grid}
 use Rattle.program_rules.specs.Program.{record_length, grid_bytes}
@@ -119,43 +121,8 @@ begun_written s h t z g k n l lt eh ez ek en =
     en ∙ ap (λ x. length (take k x)) (drop_at h d head_length lh) ∙ length-take-le k d (omega arith) ∙ kd ∙ ld in
     over_end h d z head_length k lh ek ∙ ap₂ (λ u v. u ++ v) eh (ez ∙ zeros_are n ∙ ap zeros m)
 
--- The first n bytes of two lists, from the i-th on.
-pub record SameSo (n : ℕ) (a b : List ℕ) (i : ℕ) : Type 0 where
-  pub rest : same_bytes (take n a) (take n b) ≡ same_bytes (drop i (take n a)) (drop i (take n b))
-
-module _ (n : ℕ) (a b : List ℕ) (i : ℕ) (la : n ≤ length a) (lb : n ≤ length b) (z : SameSo n a b i) where
-  abbrev after : Bool → Bool
-  after v = v && same_bytes (drop (suc i) (take n a)) (drop (suc i) (take n b))
-
-  first : (l : List ℕ) → n ≤ length l → i < n → drop i (take n l) ≡ get_or l i 0 ∷ drop (suc i) (take n l)
-  first l h k =
-      drop-cons (take n l) i 0 (omega (arith, length-take-le n l h))
-      ∙ ap (λ x. x ∷ drop (suc i) (take n l)) (get_or-take n l i 0 k)
-
-  here : i < n → same_bytes (take n a) (take n b) ≡ after (eqb (get_or a i 0) (get_or b i 0))
-  unfolding same_bytes
-  here l = z.rest ∙ ap₂ same_bytes (first a la l) (first b lb l)
-
-  pub same_not : i < n → (get_or a i 0 ≡ get_or b i 0 → ⊥) → false ≡ same_bytes (take n a) (take n b)
-  same_not l d = sym (here l ∙ ap after (ne_eqb (get_or a i 0) (get_or b i 0) d))
-
-  pub same_next : i < n → get_or a i 0 ≡ get_or b i 0 → SameSo n a b (i + 1)
-  same_next l e =
-      record {
-        rest = here l ∙ ap after (eq-eqb (get_or a i 0) (get_or b i 0) e)
-            ∙ ap (λ j. same_bytes (drop j (take n a)) (drop j (take n b))) (sym (add-one i));
-      }
-
-  none : (l : List ℕ) → n ≤ length l → i ≡ n → drop i (take n l) ≡ []
-  none l h e = ap (λ j. drop j (take n l)) (e ∙ sym (length-take-le n l h)) ∙ drop-length (take n l)
-
-  pub same_all : i ≡ n → true ≡ same_bytes (take n a) (take n b)
-  unfolding same_bytes
-  same_all e = sym (z.rest ∙ ap₂ same_bytes (none a la e) (none b lb e))
-
--- The head as it is compared: all of it.
-pub same_whole : (s h b : List ℕ) (g : Grid) → length s ≤ tape_room → h ≡ table_head s g
-    → same_bytes (take head_length b) (take head_length h) ≡ same_bytes (take head_length b) (table_head s g)
-same_whole s h b g l e =
-    ap (same_bytes (take head_length b))
-    (ap (take head_length) e ∙ take_all head_length (table_head s g) (omega (arith, head_size s g l)))
+-- What a comparison of bytes says.
+pub same_told : (a b : List ℕ) (r : Bool) → r ≡ pointwise eqb a b → r ≡ same_bytes a b
+unfolding same_bytes
+same_told a b r e =
+    same_from_decides r (same_bytes a b) (slice_eq-Decides Decides-eqb a b r e) (compares_Decides same_bytes (search rules) a b)

@@ -17,7 +17,6 @@ use Rattle.rules.specs.Tapes.{slot_limit, clause_limit, nat, is_slot, word, raw_
 use Rattle.rules.proofs.Tests.{and_right}
 use Rattle.rules.proofs.Reading.{passed, passed_tests, counts_hold, tape_accepted}
 use Rattle.slotset.specs.SlotSets.{IsSet}
-use Rattle.slotset.specs.declared.SlotSet.{SlotSet}
 use Rattle.tape.specs.declared.Fields.{Fields}
 use Rattle.tape.specs.Clauses.{raw_of}
 use Rattle.tape.proofs.ByteClauses.{left_from, raws_first, raws_here, raws_over}
@@ -42,12 +41,12 @@ sized {s} f =
       exact = a.exact ∙ ap (λ x. 8 + 10 * x) (sym f.count_is);
     }
 
-pub record KeptSo (n : ℕ) (w : SlotSet) (some : Bool) (s e : List ℕ) (k i : ℕ) (whole : Bool) : Type 0 where
+pub record KeptSo (n : ℕ) (w : List ℕ) (some : Bool) (s e : List ℕ) (k i : ℕ) (whole : Bool) : Type 0 where
   pub written : List ℕ
   pub holds : IsSet w written
   pub same : goes_on n written some (left_from s k i) (marks_from e i (k - i)) ≡ whole
 
-pub start : (s e : List ℕ) (n k : ℕ) (w : SlotSet) → ForEntry s e n k → IsSet w []
+pub start : (s e : List ℕ) (n k : ℕ) (w : List ℕ) → ForEntry s e n k → IsSet w []
     → KeptSo n w false s e k 0 (kept_ok (read_tape s).tape (marks_in (read_tape s).tape e))
 start s e n k w f h =
     let z : k - 0 ≡ k = omega arith in
@@ -65,7 +64,7 @@ marks_here e k i l =
     let m : k - i ≡ suc (k - (i + 1)) = omega arith in
     ap (marks_from e i) m ∙ ap (λ j. mark_in e i ∷ marks_from e j (k - (i + 1))) (sym (add-one i))
 
-module _ (n : ℕ) (w : SlotSet) (some : Bool) (s e : List ℕ) (k i : ℕ) (whole : Bool)
+module _ (n : ℕ) (w : List ℕ) (some : Bool) (s e : List ℕ) (k i : ℕ) (whole : Bool)
     (v : KeptSo n w some s e k i whole) where
   pub done : k ≤ i → some ≡ whole
   unfolding goes_on
@@ -130,7 +129,7 @@ module _ (n : ℕ) (w : SlotSet) (some : Bool) (s e : List ℕ) (k i : ℕ) (who
         pub out_below : nat_abs (kept f.out) < slot_limit
         out_below = slot_below slot_limit f.out (record { sfits = sm }) out_slot
 
-        pub next : (u : SlotSet) → ((ns : List ℕ) → IsSet w ns → IsSet u (nat_abs (kept f.out) ∷ ns))
+        pub next : (u : List ℕ) → ((ns : List ℕ) → IsSet w ns → IsSet u (nat_abs (kept f.out) ∷ ns))
             → KeptSo n u true s e k (i + 1) whole
         next u g =
             record {

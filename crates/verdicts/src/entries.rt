@@ -7,13 +7,15 @@ ghost use Rattle.table_rules.specs.Tables.{entry_length, table_length, tile_limi
 ghost use Rattle.table_rules.specs.Tables.{entries_ok};
 ghost use Rattle.verdicts.specs.Kept.{copy_raw, marked_raw, stands, ForEntry};
 
-use crate::{ENTRY_LENGTH, HEAD_LENGTH, KEPT, TILE_LIMIT};
-use shortening::marks::mark_at;
-use slotset::{SlotSet, empty, with};
+use crate::verdict::Verdict;
+use crate::{ENTRY_LENGTH, HEAD_LENGTH, TILE_LIMIT};
+use shortening::marks::{COPIES_LEFT, KEPT, mark_at};
+use slotset::SlotSet;
 use tape::bytes::{byte_at, fields_in, word_at};
 use tape::{CLAUSE_BYTES, Fields, HEAD_BYTES};
-use tape_check::clause::clause_fault;
+use tape_check::clause::check_clause;
 
+// A clause is read from bytes here, with any number for its opcode: `is_choice` of the rules is of numbers.
 const MINIMUM: i32 = 12;
 
 const MAXIMUM: i32 = 13;
@@ -24,7 +26,7 @@ const COPY: i32 = 4;
 fn may_copy(opcode: i32, mark: u8) -> bool
     ensures { result ≡ (leb mark 1 || is_choice (nat opcode)) }
 {
-    (mark <= 1) | ((opcode == MINIMUM) | (opcode == MAXIMUM))
+    mark <= KEPT || matches!(opcode, MINIMUM | MAXIMUM)
 }
 
 fn copy_of(out: i32, side: i32) -> Fields
@@ -32,7 +34,7 @@ fn copy_of(out: i32, side: i32) -> Fields
 {
     Fields {
         opcode: COPY,
-        out: out,
+        out,
         left: side,
         right: 0,
         constant: 0,
@@ -43,24 +45,19 @@ fn copy_of(out: i32, side: i32) -> Fields
 fn as_marked(f: Fields, mark: u8) -> Fields
     ensures { raw_of result ≡ marked_raw (raw_of f) mark }
 {
-    if mark == 1 {
-        return f;
+    match mark {
+        KEPT => f,
+        COPIES_LEFT => copy_of(f.out, f.left),
+        _ => copy_of(f.out, f.right),
     }
-    if mark == 2 {
-        return copy_of(f.out, f.left);
-    }
-    copy_of(f.out, f.right)
 }
 
 // Whether a clause that is kept may stand there, given the slots that earlier ones wrote.
-fn clause_stands(slots: u32, written: SlotSet, f: Fields, mark: u8) -> bool
+fn clause_stands(slots: u32, written: &SlotSet, f: Fields, mark: u8) -> bool
     requires { slots ≤ slot_limit }
-    ensures { (ns : List ℕ) → IsSet written ns → result ≡ stands slots ns (raw_of f) mark }
+    ensures { (ns : List ℕ) → IsSet written.now ns → result ≡ stands slots ns (raw_of f) mark }
 {
-    if !may_copy(f.opcode, mark) {
-        return false;
-    }
-    clause_fault(slots, written, as_marked(f, mark)) == 0
+    may_copy(f.opcode, mark) && check_clause(slots, written, as_marked(f, mark)).is_ok()
 }
 
 // An empty tape is turned down, as a list of no clause is.
@@ -70,19 +67,16 @@ fn kept_clauses(slots: u32, count: u32, tape: &[u8], entry: &[u8]) -> bool
         ≡ kept_ok (read_tape tape.now).tape
         (marks_in (read_tape tape.now).tape entry.now) }
 {
-    let mut written = empty();
+    let mut written = SlotSet::new();
     let mut some = false;
-    let mut i: u32 = 0;
-    while i < count {
-        let mark = mark_at(entry, 1, i as usize);
-        let at = HEAD_BYTES + CLAUSE_BYTES * i as usize;
-        i += 1;
+    for i in 0..count as usize {
+        let mark = mark_at(entry, 1, i);
         if 0 < mark {
-            let f = fields_in(tape, at);
-            if !clause_stands(slots, written, f, mark) {
+            let f = fields_in(tape, HEAD_BYTES + CLAUSE_BYTES * i);
+            if !clause_stands(slots, &written, f, mark) {
                 return false;
             }
-            written = with(written, f.out as u32);
+            written.insert(f.out as u32);
             some = true;
         }
     }
@@ -94,14 +88,13 @@ fn entry_ok(tape: &[u8], entry: &[u8]) -> bool
     requires len { length entry.now ≡ entry_length }
     ensures { result ≡ entry_ok (read_tape tape.now).tape entry.now }
 {
-    let verdict = entry[0];
-    if verdict > KEPT {
+    let Ok(verdict) = Verdict::try_from(entry[0]) else {
         return false;
+    };
+    match verdict {
+        Verdict::Kept => kept_clauses(byte_at(tape, 3), word_at(tape, 4), tape, entry),
+        _ => true,
     }
-    if verdict != KEPT {
-        return true;
-    }
-    kept_clauses(byte_at(tape, 3), word_at(tape, 4), tape, entry)
 }
 
 // All of them are looked at, also those of tiles that the grid does not have.
@@ -110,13 +103,11 @@ pub fn entries_ok(tape: &[u8], table: &[u8]) -> bool
     requires table_len { length table.now ≡ table_length }
     ensures { result ≡ entries_ok tile_limit (read_tape tape.now).tape table.now }
 {
-    let mut i = 0;
-    while i < TILE_LIMIT {
+    for i in 0..TILE_LIMIT {
         let at = HEAD_LENGTH + ENTRY_LENGTH * i;
         if !entry_ok(tape, &table[at..at + ENTRY_LENGTH]) {
             return false;
         }
-        i += 1;
     }
     true
 }

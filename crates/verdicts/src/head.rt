@@ -51,22 +51,6 @@ pub fn write_head(out: &mut [u8], tape: &[u8], grid: Grid)
     put_grid(&mut out[TAPE_ROOM..], grid)
 }
 
-// The first `count` bytes of both.
-fn same_front(a: &[u8], b: &[u8], count: usize) -> bool
-    requires count_in_bounds { count ≤ length a.now }
-    requires count_in_b { count ≤ length b.now }
-    ensures { result ≡ same_bytes (take count a.now) (take count b.now) }
-{
-    let mut i = 0;
-    while i < count {
-        if a[i] != b[i] {
-            return false;
-        }
-        i += 1;
-    }
-    true
-}
-
 // The head is made once more, in an array of its own, and compared.
 pub fn same_head(tape: &[u8], grid: Grid, table: &[u8]) -> bool
     requires tape_len_bound { length tape.now ≤ tape_room }
@@ -77,5 +61,5 @@ pub fn same_head(tape: &[u8], grid: Grid, table: &[u8]) -> bool
 {
     let mut head = [0u8; HEAD_LENGTH];
     write_head(&mut head, tape, grid);
-    same_front(table, &head, HEAD_LENGTH)
+    table[..HEAD_LENGTH] == head[..]
 }

@@ -3,6 +3,7 @@
 
 mod entries;
 mod head;
+pub mod verdict;
 
 ghost use Rattle.std.specs.Prelude.{◌≡◌, false, length};
 ghost use Rattle.rules.specs.Tapes.{read_tape};
@@ -25,9 +26,6 @@ pub const TILE_LIMIT: usize = 64;
 
 pub const TABLE_LENGTH: usize = 163936;
 
-// The verdict on a tile whose short tape is kept, which is the last.
-pub const KEPT: u8 = 3;
-
 // Every tile becomes unknown.
 pub fn begin(tape: &[u8], grid: Grid, table: &mut [u8])
     requires tape_value { (read_tape tape.now).number ≡ 0 }
@@ -43,11 +41,5 @@ pub fn check_table(tape: &[u8], grid: Grid, table: &[u8]) -> bool
     requires { (read_tape tape.now).number ≡ 0 }
     ensures { result ≡ table_ok tape.now (flat_grid (grid_in grid false)) table.now }
 {
-    if table.len() != TABLE_LENGTH {
-        return false;
-    }
-    if !same_head(tape, grid, table) {
-        return false;
-    }
-    entries_ok(tape, table)
+    table.len() == TABLE_LENGTH && same_head(tape, grid, table) && entries_ok(tape, table)
 }

@@ -2,7 +2,8 @@
 use mathlib.Core.Path.{◌≡◌, refl, ap, sym, ◌∙◌}
 use mathlib.Core.Bool.{true, false}
 use mathlib.Core.List.{List, [], ◌∷◌, ◌++◌, append-nil, append_assoc}
-use Prim.Native.Nat.{ℕ, zero, suc, ◌+◌, ◌-◌, ◌*◌, ◌/◌, ◌%◌, ◌≤◌, ◌<◌}
+use Prim.Native.Nat.{ℕ, zero, suc, ◌+◌, ◌-◌, ◌*◌, ◌/◌, ◌%◌, ◌≤◌, ◌<◌, min}
+use native.Mathlib.Decide.{dec_lt}
 use native.Mathlib.Nat.{div-add-mod', mul-le-mul_left, le_of_mul-le-mul_right, mod-eq-sub-mod, sub_right_comm}
 use native.Mathlib.Omega.{arith}
 use lib.Dec.{ltb}
@@ -180,6 +181,13 @@ lesser_first a b h = rw (le-leb a b h)
 pub lesser_second : (a b : ℕ) → b < a → lesser a b ≡ b
 unfolding lesser
 lesser_second a b h = rw (lt-leb a b h)
+
+pub min_lesser : (a b : ℕ) → min a b ≡ lesser a b
+min_lesser a b =
+    elim (dec_lt b a) [
+      | yes h ↦ omega (arith, lesser_second a b h)
+      | no h ↦ omega (arith, lesser_first a b (omega arith))
+    ]
 
 -- The part of an axis of w samples that a region from i on with side n has.
 pub record Part (w i n : ℕ) : Type 0 where

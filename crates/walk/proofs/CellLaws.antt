@@ -15,7 +15,8 @@ use Rattle.code.specs.Runs.{EndsOk}
 use Rattle.picture.specs.Shapes.{grid_in}
 use Rattle.picture.specs.declared.grid.Grid.{Grid}
 use Rattle.picture.proofs.Grids.{accepted}
-use Rattle.walk.specs.Cells.{layers_in, Ready, Small, InGrid, Ends, CellOk, region_in, SpanIn, span_of, CellBox}
+use Rattle.walk.specs.Cells.{layers_in, Ready, Small, InGrid, Ends, CellOk, region_in, SpanIn, span_of}
+use Rattle.walk.specs.Cells.{ForBounds, BoundsOf, CellBox}
 use Rattle.walk.specs.declared.cell.Cell.{Cell}
 use Rattle.walk.proofs.Along.{part, children_rows, children_layers}
 
@@ -91,40 +92,42 @@ boxes p q r = cc
 span_least : (f s : ℤ) (a : ℕ) {e p : ℕ} → e ≡ p → span_of f s a e ≡ span_of f s a p
 span_least f s a h = ap (λ v. range (at f s a) (at f s (v - 1))) h
 
-module _ (grid : Grid) (c : Cell) {xs ys zs : Range} (hx : xs ≡ span_of grid.xorigin grid.xstep c.x c.xend)
-    (hy : ys ≡ span_of grid.yorigin grid.ystep c.y c.yend) where
-  pub solid_box : CellOk grid.depth grid c → grid_fault true (grid_in grid true) ≡ 0
-      → zs ≡ span_of grid.zorigin grid.zstep c.z c.zend
-      → CellBox true grid c (record { xs = xs; ys = ys; zs = zs })
+pub for_bounds : (isSolid : Bool) (grid : Grid) (c : Cell) → CellOk (layers_in isSolid grid) grid c
+    → grid_fault isSolid (grid_in grid isSolid) ≡ 0 → ForBounds grid c
+for_bounds isSolid grid c k e = record { xs = x_span isSolid grid c k e; ys = y_span isSolid grid c k e }
+
+module _ (grid : Grid) (c : Cell) {zs : Range} {b : Box} where
+  pub solid_box : CellOk grid.depth grid c → grid_fault true (grid_in grid true) ≡ 0 → BoundsOf grid c zs b
+      → zs ≡ span_of grid.zorigin grid.zstep c.z c.zend → CellBox true grid c b
   unfolding box_of
-  solid_box k e hz =
+  solid_box k e o hz =
       record {
         same = rw (kind true grid e)
             (boxes
-            (hx ∙ span_least grid.xorigin grid.xstep c.x k.xs.least)
-            (hy ∙ span_least grid.yorigin grid.ystep c.y k.ys.least)
-            (hz ∙ span_least grid.zorigin grid.zstep c.z k.zs.least));
+            (o.xs ∙ span_least grid.xorigin grid.xstep c.x k.xs.least)
+            (o.ys ∙ span_least grid.yorigin grid.ystep c.y k.ys.least)
+            (o.zs ∙ hz ∙ span_least grid.zorigin grid.zstep c.z k.zs.least));
         ok = record {
-          xs = span_ok_lem (x_span true grid c k e) hx;
-          ys = span_ok_lem (y_span true grid c k e) hy;
-          zs = span_ok_lem (z_span grid c k e) hz;
+          xs = span_ok_lem (x_span true grid c k e) o.xs;
+          ys = span_ok_lem (y_span true grid c k e) o.ys;
+          zs = span_ok_lem (z_span grid c k e) (o.zs ∙ hz);
         };
       }
 
-  pub flat_box : CellOk 1 grid c → grid_fault false (grid_in grid false) ≡ 0 → zs ≡ range grid.zorigin grid.zorigin
-      → CellBox false grid c (record { xs = xs; ys = ys; zs = zs })
+  pub flat_box : CellOk 1 grid c → grid_fault false (grid_in grid false) ≡ 0 → BoundsOf grid c zs b
+      → zs ≡ range grid.zorigin grid.zorigin → CellBox false grid c b
   unfolding box_of
-  flat_box k e hz =
+  flat_box k e o hz =
       let v = (accepted grid false e).flat_z in
       record {
         same = boxes
-            (hx ∙ span_least grid.xorigin grid.xstep c.x k.xs.least)
-            (hy ∙ span_least grid.yorigin grid.ystep c.y k.ys.least)
-            hz;
+            (o.xs ∙ span_least grid.xorigin grid.xstep c.x k.xs.least)
+            (o.ys ∙ span_least grid.yorigin grid.ystep c.y k.ys.least)
+            (o.zs ∙ hz);
         ok = record {
-          xs = span_ok_lem (x_span false grid c k e) hx;
-          ys = span_ok_lem (y_span false grid c k e) hy;
-          zs = rw hz (record { low = v; high = v });
+          xs = span_ok_lem (x_span false grid c k e) o.xs;
+          ys = span_ok_lem (y_span false grid c k e) o.ys;
+          zs = rw (o.zs ∙ hz) (record { low = v; high = v });
         };
       }
 

@@ -71,6 +71,16 @@ pub record SpanIn (origin step : ℤ) (from end : ℕ) : Type 0 where
 abbrev pub span_of : ℤ → ℤ → ℕ → ℕ → Range
 span_of origin step from end = range (at origin step from) (at origin step (end - 1))
 
+-- The samples of a cell's columns and rows are values; the ranges of its box on these axes are theirs.
+pub record ForBounds (grid : Grid) (c : Cell) : Type 0 where
+  pub xs : SpanIn grid.xorigin grid.xstep c.x c.xend
+  pub ys : SpanIn grid.yorigin grid.ystep c.y c.yend
+
+pub record BoundsOf (grid : Grid) (c : Cell) (layers : Range) (b : Box) : Type 0 where
+  pub xs : b.xs ≡ span_of grid.xorigin grid.xstep c.x c.xend
+  pub ys : b.ys ≡ span_of grid.yorigin grid.ystep c.y c.yend
+  pub zs : b.zs ≡ layers
+
 -- The box of a cell: that of its region, with ends that are values.
 pub record CellBox (isSolid : Bool) (grid : Grid) (c : Cell) (b : Box) : Type 0 where
   pub same : b ≡ box_of (grid_in grid isSolid) (region_in c)

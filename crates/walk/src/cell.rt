@@ -2,7 +2,7 @@
 ghost use Rattle.std.specs.Prelude.{◌≡◌, true, false};
 ghost use Rattle.rules.specs.Drawings.{region, lesser as lesserOf};
 ghost use Rattle.fixed.specs.Shapes.{box_in, range_in};
-ghost use Rattle.walk.specs.Cells.{ForCell, ForBox, CellOf, SpanIn, span_of, CellBox};
+ghost use Rattle.walk.specs.Cells.{ForCell, ForBox, CellOf, SpanIn, span_of, ForBounds, BoundsOf, CellBox};
 
 use fixed::clause::Bounds;
 use fixed::span::Span;
@@ -20,10 +20,11 @@ pub struct Cell {
     pub side: u32,
 }
 
+// The lesser of two indices, as the rules have it.
 pub fn lesser(a: u32, b: u32) -> u32
     ensures { result ≡ lesserOf a b }
 {
-    if a <= b { a } else { b }
+    a.min(b)
 }
 
 // `layers` is the grid's depth in a solid, and 1 in a flat drawing.
@@ -32,13 +33,13 @@ pub fn cell_at(grid: Grid, layers: u32, x: u32, y: u32, z: u32, side: u32) -> Ce
     ensures { CellOf layers grid (region x y z side) result }
 {
     Cell {
-        x: x,
+        x,
         xend: lesser(grid.width, x + side),
-        y: y,
+        y,
         yend: lesser(grid.height, y + side),
-        z: z,
+        z,
         zend: lesser(layers, z + side),
-        side: side,
+        side,
     }
 }
 
@@ -53,16 +54,25 @@ pub fn span(origin: i32, step: i32, from: u32, end: u32) -> Span
     }
 }
 
+// The box of a region, with its range of z.
+fn bounds(grid: Grid, c: Cell, zs: Span) -> Bounds
+    requires { ForBounds grid c }
+    ensures { BoundsOf grid c (range_in zs) (box_in result) }
+{
+    Bounds {
+        xs: span(grid.xorigin, grid.xstep, c.x, c.xend),
+        ys: span(grid.yorigin, grid.ystep, c.y, c.yend),
+        zs,
+    }
+}
+
 // The box of a solid's region.
 pub fn solid_bounds(grid: Grid, c: Cell) -> Bounds
     requires { ForBox true grid c }
     ensures { CellBox true grid c (box_in result) }
 {
-    Bounds {
-        xs: span(grid.xorigin, grid.xstep, c.x, c.xend),
-        ys: span(grid.yorigin, grid.ystep, c.y, c.yend),
-        zs: span(grid.zorigin, grid.zstep, c.z, c.zend),
-    }
+    let zs = span(grid.zorigin, grid.zstep, c.z, c.zend);
+    bounds(grid, c, zs)
 }
 
 // The box of a flat region: its one z is the grid's, as given.
@@ -70,12 +80,6 @@ pub fn flat_bounds(grid: Grid, c: Cell) -> Bounds
     requires { ForBox false grid c }
     ensures { CellBox false grid c (box_in result) }
 {
-    Bounds {
-        xs: span(grid.xorigin, grid.xstep, c.x, c.xend),
-        ys: span(grid.yorigin, grid.ystep, c.y, c.yend),
-        zs: Span {
-            low: grid.zorigin,
-            high: grid.zorigin,
-        },
-    }
+    let z = grid.zorigin;
+    bounds(grid, c, Span { low: z, high: z })
 }

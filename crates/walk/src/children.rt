@@ -24,25 +24,14 @@ pub fn child_count(parent: Cell, side: u32) -> u32
 
 // A number over the parts of an axis, and what is left of it. A region that the grid's edge does not cut has eight or
 // four parts: then no division is made. One takes longer than all else here.
-fn over(m: u32, n: u32) -> u32
+fn over(m: u32, n: u32) -> (u32, u32)
     requires { 0 < n }
-    ensures { result ≡ m / n }
+    ensures { (result.0 ≡ m / n) × (result.1 ≡ m % n) }
 {
     match n {
-        8 => m / 8,
-        4 => m / 4,
-        _ => m / n,
-    }
-}
-
-fn rest(m: u32, n: u32) -> u32
-    requires { 0 < n }
-    ensures { result ≡ m % n }
-{
-    match n {
-        8 => m % 8,
-        4 => m % 4,
-        _ => m % n,
+        8 => (m / 8, m % 8),
+        4 => (m / 4, m % 4),
+        _ => (m / n, m % n),
     }
 }
 
@@ -53,20 +42,18 @@ pub fn child(parent: Cell, side: u32, m: u32) -> Cell
     let across = parts(parent.x, parent.xend, side);
     let rows = parts(parent.y, parent.yend, side);
     let layers = parts(parent.z, parent.zend, side);
-    let before = over(m, across);
-    let column = rest(m, across);
-    let above = over(before, rows);
-    let row = rest(before, rows);
+    let (before, column) = over(m, across);
+    let (above, row) = over(before, rows);
     let x = parent.x + column * side;
     let y = parent.y + row * side;
     let z = parent.z + (layers - 1 - above) * side;
     Cell {
-        x: x,
+        x,
         xend: lesser(parent.xend, x + side),
-        y: y,
+        y,
         yend: lesser(parent.yend, y + side),
-        z: z,
+        z,
         zend: lesser(parent.zend, z + side),
-        side: side,
+        side,
     }
 }

@@ -21,6 +21,3 @@ pub returns-then-m-eq0 : goal.returns-then-m-eq0
 returns-then-m-eq0 c =
     let p = c.requires in
     just_run c.if-m-eq0.true p.all p.some c.following-numbers.ensures c.run_numbered.ensures
-
-pub returns : goal.returns
-returns c = c.requires.before c.if-m-eq0.false

@@ -1,4 +1,4 @@
--- `fixed::root::lowered` meets its contract. The number stays within 32 bits, so that its square fits, and falls with
+-- `isqrt::lowered` meets its contract. The number stays within 32 bits, so that its square fits, and falls with
 -- each turn.
 use Prim.Native.Nat.{◌<◌, ◌^◌}
 use Rattle.isqrt.proofs.lowered.Given as goal

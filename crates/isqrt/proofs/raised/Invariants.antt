@@ -1,4 +1,4 @@
--- `fixed::root::raised` meets its contract. The square stays at most n, so that the number stays below 2^24; it rises
+-- `isqrt::raised` meets its contract. The square stays at most n, so that the number stays below 2^24; it rises
 -- with each turn.
 use Prim.Native.Nat.{◌*◌, ◌-◌, ◌^◌, ◌≤◌}
 use Rattle.isqrt.proofs.raised.Given as goal

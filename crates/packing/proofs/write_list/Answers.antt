@@ -1,7 +1,6 @@
 -- `write_list` meets its contract: the clauses from the i-th on.
 use Prim.Native.Nat.{◌+◌, ◌*◌, ◌≤◌}
 use native.Mathlib.Omega.{arith}
-use borrow.Author.Rules.{rules}
 use lib.ListN.{length, get_or}
 use Rattle.tape.specs.Clauses.{raw_of}
 use Rattle.packing.specs.Packing.{numbers_of}
@@ -10,8 +9,7 @@ use Rattle.packing.proofs.write_list.Goals.{In-loop-i}
 use Rattle.packing.proofs.write_list.Goals as goal
 
 pub loop-i-init : goal.loop-i-init
-loop-i-init c =
-    (search rules, numbers_start c.args.count c.args.tape.now c.args.out.now c.requires)
+loop-i-init c = numbers_start c.args.count c.args.tape.now c.args.out.now c.requires
 
 -- What a turn has: the clause's index is below the count, and the output has room for it.
 here-sizes : (c : In-loop-i) → let a = c.args in TapeSizes a.count a.tape.now a.out.now
@@ -21,7 +19,7 @@ here-sizes c =
 room : (c : In-loop-i) → 5 * c.loop-i.i + 5 ≤ length c.loop-i.out
 room c =
     let z = (here-sizes c) in
-    omega (arith, z.numbers, c.requires.size, c.loop-i.invariant.1.size, c.loop-i-test.true)
+    omega (arith, z.numbers, c.requires.size, c.loop-i.invariant.size, c.loop-i-test.true)
 
 pub overflow_cast-i : goal.overflow_cast-i
 overflow_cast-i c = omega (arith, (here-sizes c).clauses, c.loop-i-test.true)
@@ -48,35 +46,25 @@ overflow_mul-i-in-loop-i c =
 pub put_numbers-requires : goal.put_numbers-requires
 put_numbers-requires c =
     let here-sizes : let a = c.args in TapeSizes a.count a.tape.now a.out.now = tape_sizes c.args.count c.args.tape.now c.args.out.now c.requires in
-    let room : 5 * c.loop-i.i + 5 ≤ length c.loop-i.out = let z = here-sizes in omega (arith, z.numbers, c.requires.size, c.loop-i.invariant.1.size, c.loop-i-test.true) in
+    let room : 5 * c.loop-i.i + 5 ≤ length c.loop-i.out = let z = here-sizes in omega (arith, z.numbers, c.requires.size, c.loop-i.invariant.size, c.loop-i-test.true) in
     room
-
-pub overflow_add-i-in-loop-i : goal.overflow_add-i-in-loop-i
-overflow_add-i-in-loop-i c =
-    let here-sizes : let a = c.args in TapeSizes a.count a.tape.now a.out.now = tape_sizes c.args.count c.args.tape.now c.args.out.now c.requires in
-    omega (arith, here-sizes.clauses, c.loop-i-test.true)
-
-pub loop-i-smaller : goal.loop-i-smaller
-loop-i-smaller c = omega (arith, c.loop-i-test.true)
 
 pub loop-i-preserved : goal.loop-i-preserved
 loop-i-preserved c =
     let here-sizes : let a = c.args in TapeSizes a.count a.tape.now a.out.now = tape_sizes c.args.count c.args.tape.now c.args.out.now c.requires in
-    let room : 5 * c.loop-i.i + 5 ≤ length c.loop-i.out = let z = here-sizes in omega (arith, z.numbers, c.requires.size, c.loop-i.invariant.1.size, c.loop-i-test.true) in
+    let room : 5 * c.loop-i.i + 5 ≤ length c.loop-i.out = let z = here-sizes in omega (arith, z.numbers, c.requires.size, c.loop-i.invariant.size, c.loop-i-test.true) in
     let a = c.args in
-    let s = a.tape.now in (
-      omega (arith, c.loop-i-test.true),
-      numbers_next (numbers_of s) (get_or s 3 0) c.loop-i.i a.count s c.loop-i.out c.loop-i.invariant.1
-          (raw_of c.fields_in-f.result) c.fields_in-f.ensures c.loop-i-test.true c.put_numbers.new.out
-          c.put_numbers.ensures room,
-    )
+    let s = a.tape.now in
+    numbers_next (numbers_of s) (get_or s 3 0) c.loop-i.i a.count s c.loop-i.out c.loop-i.invariant
+    (raw_of c.fields_in-f.result) c.fields_in-f.ensures c.loop-i-test.true c.put_numbers.new.out
+    c.put_numbers.ensures room
 
 pub shape_of-out : goal.shape_of-out
-shape_of-out c = omega (arith, c.loop-i.invariant.1.size, c.requires.size)
+shape_of-out c = omega (arith, c.loop-i.invariant.size, c.requires.size)
 
 pub returns : goal.returns
 returns c =
     let a = c.args in
     let s = a.tape.now in
-    numbers_done (numbers_of s) (get_or s 3 0) c.loop-i.i a.count s c.loop-i.out c.loop-i.invariant.1
+    numbers_done (numbers_of s) (get_or s 3 0) c.loop-i.i a.count s c.loop-i.out c.loop-i.invariant
     c.loop-i-test.false

@@ -1,5 +1,5 @@
 -- `write_tape` meets its contract: the head, then the clauses from the i-th on.
-use Prim.Native.Nat.{◌+◌, ◌*◌, ◌-◌, ◌≤◌}
+use Prim.Native.Nat.{◌+◌, ◌*◌}
 use lib.ListN.{drop}
 use Rattle.rules.specs.Tapes.{raws_of, clause_bytes}
 use Rattle.packing.specs.Packing.{bytes_of}
@@ -8,8 +8,4 @@ use Rattle.packing.proofs.Numbers.{Gathered}
 use Rattle.packing.proofs.write_tape.Given as goal
 
 abbrev pub invariant-loop-i : goal.invariant-loop-i
-invariant-loop-i l = (l.i ≤ l.count)
-    × (Written clause_bytes (bytes_of l.slots l.list) l.slots l.i (8 + 10 * l.i) (raws_of (drop (5 * l.i) l.list)) l.out × Gathered l.list l.i)
-
-abbrev pub decreases-loop-i : goal.decreases-loop-i
-decreases-loop-i l = l.count - l.i
+invariant-loop-i l = (Written clause_bytes (bytes_of l.slots l.list) l.slots l.i (8 + 10 * l.i) (raws_of (drop (5 * l.i) l.list)) l.out × Gathered l.list l.i)

@@ -23,9 +23,6 @@ fits-0 n = rw (read_back n) (fits_same (n % 16777216) (omega arith))
 less-back : (n : ℕ) → to_z w32 (of_z w32 (to_z w32 (n % 16777216) -ℤ pos 1)) ≡ pos (n % 16777216) -ℤ pos 1
 less-back n = to_z-of_z (fits n) ∙ ap (λ z. z -ℤ pos 1) (read_back n)
 
-pub overflow_sub-result : goal.overflow_sub-result
-overflow_sub-result c = let n = to_bits binary64 c.args.t in search (fits-0 n, fits n)
-
 pub returns-then-x-s : goal.returns-then-x-s
 returns-then-x-s c m h e n = less-back (to_bits binary64 c.args.t) ∙ stepped_down c.args.x c.args.t _ m h e n (ap (sub binary64 c.args.t) far) c.if-x-s.true
 

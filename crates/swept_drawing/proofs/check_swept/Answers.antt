@@ -1,33 +1,40 @@
 -- The lines of the grid, and behind them line 25 and the lengths.
-use mathlib.Core.Bool.{false, not}
-use mathlib.Core.List.{[], ◌∷◌}
-use Prim.Native.Nat.{◌*◌}
-use lib.Dec.{eqb}
-use Rattle.rules.specs.Values.{when}
-use Rattle.swept_rules.specs.Swept.{path_fault}
-use Rattle.picture.specs.Shapes.{grid_in}
-use Rattle.answers.specs.Lines.{work_fault, grid_lines}
-use Rattle.answers.proofs.Ends.{next_stage}
-use Rattle.swept_drawing.proofs.Calls.{refused_first, grid_passed, lines_found}
+use Rattle.std.proofs.lemmas.Result.{err_from_is_err_and}
+use Rattle.answers.proofs.Chains.{stage_refuses, line_refuses, line_passes}
+use Rattle.swept_drawing.proofs.Calls.{grid_passed, pixels_line}
 use Rattle.swept_drawing.proofs.check_swept.Goals as goal
 
-pub returns-then-checked-ne0 : goal.returns-then-checked-ne0
-returns-then-checked-ne0 c =
-    let a = c.args in
-    refused_first (grid_lines false a.tape.now (grid_in a.grid false))
-    (path_fault (grid_in a.grid false) a.path.now
-    ∷ (when (not (eqb a.length (a.grid.width * a.grid.height))) 12 ∷ (work_fault a.work ∷ [])))
-    a.tape.now c.check_grid-checked.ensures c.if-checked-ne0.true
+pub returns-in_err-check_grid : goal.returns-in_err-check_grid
+returns-in_err-check_grid c =
+    let p = err_from_is_err_and c.from_residual.result c.from_residual.ensures.1 in
+    rw (p.1, p.2) (stage_refuses _ c.in_err-check_grid.ensures)
 
-pub path_fault-path_line-requires : goal.path_fault-path_line-requires
-path_fault-path_line-requires c =
-    let a = c.args in
-    grid_passed a.tape.now a.grid c.check_grid-checked.ensures c.if-checked-ne0.false
+pub check_path-requires : goal.check_path-requires
+check_path-requires c = grid_passed c.args.tape.now c.args.grid c.in_ok-check_grid.ensures
+
+pub returns-in_err-check_path : goal.returns-in_err-check_path
+returns-in_err-check_path c =
+    let r = c.from_residual-in_err-check_path in
+    let p = err_from_is_err_and r.result r.ensures.1 in
+    rw (p.1, p.2) (line_refuses _ c.in_ok-check_grid.ensures c.in_err-check_path.ensures)
+
+pub returns-in_err-check_length : goal.returns-in_err-check_length
+returns-in_err-check_length c =
+    let r = c.from_residual-in_err-check_length in
+    let p = err_from_is_err_and r.result r.ensures.1 in
+    rw (p.1, p.2)
+    (line_refuses _ (line_passes c.in_ok-check_grid.ensures c.in_ok-check_path.ensures)
+    (pixels_line c.args.grid c.args.length c.in_err-check_length.ensures))
+
+pub returns-in_err-check_work : goal.returns-in_err-check_work
+returns-in_err-check_work c =
+    let r = c.from_residual-in_err-check_work in
+    let p = err_from_is_err_and r.result r.ensures.1 in
+    rw (p.1, p.2)
+    (line_refuses _ (line_passes (line_passes c.in_ok-check_grid.ensures c.in_ok-check_path.ensures)
+    (pixels_line c.args.grid c.args.length c.in_ok-check_length.ensures)) c.in_err-check_work.ensures)
 
 pub returns : goal.returns
 returns c =
-    let a = c.args in
-    next_stage (grid_lines false a.tape.now (grid_in a.grid false)) a.tape.now c.check_grid-checked.ensures
-    c.refused.ensures c.first_fault.ensures
-    (lines_found a.grid a.path.now a.length a.work c.path_fault-path_line.ensures
-    c.length_fault-length_line.ensures c.work_fault-work_line.ensures)
+    line_passes (line_passes (line_passes c.in_ok-check_grid.ensures c.in_ok-check_path.ensures)
+    (pixels_line c.args.grid c.args.length c.in_ok-check_length.ensures)) c.in_ok-check_work.ensures

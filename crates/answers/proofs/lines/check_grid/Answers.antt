@@ -1,10 +1,18 @@
 -- The tape's lines, and then the grid's.
-use mathlib.Core.Path.{ap₂}
-use mathlib.Core.List.{[], ◌∷◌}
-use Rattle.answers.proofs.Ends.{first_stage}
+use Rattle.std.proofs.lemmas.Result.{err_from_is_err_and}
+use Rattle.answers.proofs.Chains.{tape_refuses, tape_passes, line_refuses, line_passes}
 use Rattle.answers.proofs.lines.check_grid.Goals as goal
 
+pub returns-in_err-check_tape : goal.returns-in_err-check_tape
+returns-in_err-check_tape c =
+    let p = err_from_is_err_and c.from_residual.result c.from_residual.ensures.1 in
+    rw (p.1, p.2) (tape_refuses _ c.in_err-check_tape.ensures)
+
+pub returns-in_err-check_axes : goal.returns-in_err-check_axes
+returns-in_err-check_axes c =
+    let r = c.from_residual-in_err-check_axes in
+    let p = err_from_is_err_and r.result r.ensures.1 in
+    rw (p.1, p.2) (line_refuses _ (tape_passes c.in_ok-check_tape.ensures) c.in_err-check_axes.ensures)
+
 pub returns : goal.returns
-returns c =
-    first_stage _ c.refused.ensures c.first_fault.ensures
-    (ap₂ (λ a b. a ∷ (b ∷ [])) c.check_tape-checked.ensures.number c.grid_fault-grid_line.ensures) c.check_tape-checked.ensures.place
+returns c = line_passes (tape_passes c.in_ok-check_tape.ensures) c.in_ok-check_axes.ensures

@@ -1,15 +1,8 @@
 -- `span::minimum_spans`: on both ends.
-use Rattle.rules.specs.Values.{smaller, smaller_range}
-use Rattle.fixed.proofs.Spans.{fit, ends_of_two}
+use Rattle.std.proofs.Common.{rules}
+use Rattle.rules.specs.Values.{smaller_range}
 use Rattle.fixed.proofs.span.minimum_spans.Goals as goal
 
 pub returns : goal.returns
 unfolding smaller_range
-returns c =
-    let args = c.args in
-    let f = fit {s = args.a} c.struct_told-1.given in
-    let g = fit {s = args.b} c.struct_told-2-1.given in
-    let l = c.minimum in
-    let h = c.minimum-2 in
-    ends_of_two l.result h.result l.type_inv h.type_inv smaller
-    f.low g.low f.high g.high l.ensures h.ensures
+returns c = search rules

@@ -1,12 +1,11 @@
 -- `value::divide`: with both signs changed where the divisor is below 0, a division by the divisor's size.
 use mathlib.Core.Path.{ap, ◌∙◌}
-use native.Mathlib.Omega.{arith}
 use lib.Signed.{shr_z}
 use mir.Syntax.{w32, w64}
 use mir.Facts.{to_z-of_z}
 use Rattle.rules.specs.Values.{clamped, end_of}
 use Rattle.fixed.proofs.Words.{back, back_one, back_two}
-use Rattle.fixed.proofs.Division.{scaled_fits, scaled, divisor_unsigned, divisor_size, above_none, of_fraction}
+use Rattle.fixed.proofs.Division.{scaled, divisor_size, above_none, of_fraction}
 use Rattle.fixed.proofs.Division.{by_none}
 use Rattle.fixed.proofs.value.divide.Goals as goal
 
@@ -15,21 +14,6 @@ returns-then-b-eq0 c =
     let r = c.end_of in
     back_one w32 end_of r.result r.type_inv r.ensures (to_z-of_z c.ranges.a)
     ∙ by_none c.args.a c.args.b c.ranges.b c.if-b-eq0.true
-
-pub overflow_mul-turned : goal.overflow_mul-turned
-overflow_mul-turned c =
-    let n = c.turned in
-    scaled_fits c.ranges.b c.ranges.a n.result n.type_inv n.ensures
-
-pub overflow_cast-turned : goal.overflow_cast-turned
-overflow_cast-turned c =
-    let d = c.turned-2 in
-    divisor_unsigned c.ranges.b d.result d.type_inv d.ensures
-
-pub floor_over-requires : goal.floor_over-requires
-floor_over-requires c =
-    let d = c.turned-2 in
-    omega (arith, divisor_size c.ranges.b d.result d.type_inv d.ensures, above_none c.args.b c.if-b-eq0.false)
 
 pub returns : goal.returns
 returns c =

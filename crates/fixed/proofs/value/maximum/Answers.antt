@@ -1,17 +1,7 @@
--- `value::maximum`: the test of the words is the test of the numbers.
-use mathlib.Core.Bool.{true, false}
-use Rattle.rules.specs.Values.{larger}
-use Rattle.fixed.proofs.Words.{chosen}
+-- `value::maximum`: the library's larger number.
+use Rattle.std.proofs.Common.{rules}
+use Rattle.fixed.proofs.Ends.{max_is}
 use Rattle.fixed.proofs.value.maximum.Goals as goal
 
-pub returns-then-a-b : goal.returns-then-a-b
-unfolding larger
-returns-then-a-b c =
-    let f = c.ranges in
-    chosen true f.a f.b f.b f.a c.if-a-b.true
-
-pub returns-else-a-b : goal.returns-else-a-b
-unfolding larger
-returns-else-a-b c =
-    let f = c.ranges in
-    chosen false f.a f.b f.b f.a c.if-a-b.false
+pub returns : goal.returns
+returns c = search (rules, max_is)

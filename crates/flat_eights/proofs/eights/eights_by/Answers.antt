@@ -105,16 +105,6 @@ overflow_add-count c =
     children_few false _ _ 8 8 (omega arith) (omega arith) p.side p.ready.fault p.cell) c.visit_eight-count.ensures.visits.bound in
     omega (arith, sound_length c.requires.for_eights.level.sound, sum)
 
-pub overflow_add-m : goal.overflow_add-m
-overflow_add-m c =
-    omega (
-      arith,
-      c.loop-m-test.true,
-      c.child_count-end.ensures,
-      (let p = c.requires.for_eights in
-          children_few false _ _ 8 8 (omega arith) (omega arith) p.side p.ready.fault p.cell),
-    )
-
 pub loop-m-smaller : goal.loop-m-smaller
 loop-m-smaller c = omega (arith, c.loop-m-test.true)
 

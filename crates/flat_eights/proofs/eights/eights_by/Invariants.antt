@@ -1,7 +1,7 @@
 -- The regions of side 8 of a tile, eight in a run.
 use mathlib.Core.Path.{◌≡◌}
 use mathlib.Core.Bool.{false}
-use Prim.Native.Nat.{◌+◌, ◌-◌, ◌%◌}
+use Prim.Native.Nat.{◌+◌, ◌%◌}
 use lib.ListN.{length, drop}
 use Rattle.sweep.specs.Chunks.{block_rows}
 use Rattle.range_sweep.specs.Boxes.{LentEnds}
@@ -23,6 +23,3 @@ invariant-loop-m l = AtChild false 8 65 l.code l.grid below8 l.parent l.initial.
     × LentEnds l.ends
     × (length l.choices ≡ length l.initial.choices)
     × ((l.m % 8 ≡ 0 → ⊥) → Ran l.code l.grid l.parent 8 l.m l.ends l.choices l.result)
-
-abbrev pub decreases-loop-m : goal.decreases-loop-m
-decreases-loop-m l = l.end - l.m

@@ -1,7 +1,6 @@
 -- The rows of samples of a region of side 8.
 use native.Mathlib.Omega.{arith}
 use Rattle.picture.proofs.PartLaws.{apart_none, apart_part, rows_apart, blank_below}
-use Rattle.walk.proofs.CellLaws.{ready_small}
 use Rattle.walk.proofs.LookLaws.{sound_length}
 use Rattle.walk.proofs.Loops.{rows_begin, rows_again, rows_done}
 use Rattle.walk.proofs.Places.{up_sum, ready_again}
@@ -49,12 +48,6 @@ overflow_add-count c =
     let none = blank_below (omega (arith, i.0.place.place)) (omega (arith, c.loop-y-test.true, p.ok.ys, p.side)) i.1 p.blank in
     let u = up_sum i.0.place c.loop-y-test.true (c.store_signs-count.ensures.folds none).bound in
     omega (arith, sound_length p.sound, u)
-
-pub overflow_add-y : goal.overflow_add-y
-overflow_add-y c =
-    let p = c.requires in
-    let d = ready_small p.ready in
-    omega (arith, c.loop-y-test.true, p.ok.ys, d.height)
 
 pub loop-y-preserved : goal.loop-y-preserved
 loop-y-preserved c =

@@ -15,7 +15,7 @@ loop-c-preserved c =
     let l = c.loop-c in (
       omega arith,
       one_more _ _ l.r l.c _ c.loop-c-test.true l.invariant.1
-          (λ k h. c.splat-row.ensures.at k h ∙ to_z-of_z {w = w32} (sfits_of c.splat-arg-1.given)),
+          (λ k h. c.splat.ensures.at k h ∙ to_z-of_z {w = w32} (sfits_of c.splat-arg-1.given)),
     )
 
 pub returns : goal.returns

@@ -122,9 +122,6 @@ overflow_add-count c =
     let sum = child_sum c.loop-m.invariant.0 64 (omega (arith, c.loop-m-test.true, c.child_count-end.ensures)) (let t = c.requires.rect.tiled in parts_fewer t.parent 8 1 t.side (omega (arith, t.whole.zs.in_grid))) v.bound in
     omega (arith, sound_length c.requires.rect.lent.level.sound, sum)
 
-pub overflow_add-m : goal.overflow_add-m
-overflow_add-m c = omega (arith, c.loop-m-test.true, c.child_count-end.ensures, (let t = c.requires.rect.tiled in parts_fewer t.parent 8 1 t.side (omega (arith, t.whole.zs.in_grid))))
-
 pub loop-m-smaller : goal.loop-m-smaller
 loop-m-smaller c = omega (arith, c.loop-m-test.true)
 

@@ -1,7 +1,7 @@
 -- The tiles of a rectangle, eight in a run.
 use mathlib.Core.Path.{◌≡◌}
 use mathlib.Core.Bool.{false}
-use Prim.Native.Nat.{◌-◌, ◌%◌}
+use Prim.Native.Nat.{◌%◌}
 use lib.ListN.{length, drop}
 use Rattle.sweep.specs.Chunks.{block_rows}
 use Rattle.range_sweep.specs.Boxes.{LentEnds}
@@ -26,6 +26,3 @@ invariant-loop-m l = AtChild false 64 flat_bound l.whole l.grid below64 l.parent
     × (length l.own ≡ length l.initial.own)
     × LentEnds l.ends
     × ((l.m % 8 ≡ 0 → ⊥) → Ran l.whole l.grid l.parent 64 l.m l.ends l.own l.result)
-
-abbrev pub decreases-loop-m : goal.decreases-loop-m
-decreases-loop-m l = l.end - l.m

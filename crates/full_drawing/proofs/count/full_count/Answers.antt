@@ -7,11 +7,5 @@ use Rattle.full_drawing.proofs.count.full_count.Goals.{Start}
 counts : (c : Start) → CountFits c.args.clauses c.args.width c.args.height c.args.layers
 counts c = count_fits _ _ _ _ c.requires.clauses_le_clause_limit c.requires.width_le_size_limit.0 c.requires.width_le_size_limit.1 c.requires.width_le_size_limit.2
 
-pub overflow_mul-result : goal.overflow_mul-result
-overflow_mul-result c = omega (arith, (counts (goal.at.overflow_mul-result c).Start).column)
-
-pub overflow_mul-result-2 : goal.overflow_mul-result-2
-overflow_mul-result-2 c = omega (arith, (counts (goal.at.overflow_mul-result-2 c).Start).samples)
-
 pub overflow_mul-result-3 : goal.overflow_mul-result-3
 overflow_mul-result-3 c = omega (arith, (counts (goal.at.overflow_mul-result-3 c).Start).clauses)

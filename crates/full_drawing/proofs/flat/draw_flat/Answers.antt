@@ -1,13 +1,13 @@
 -- The rows of bytes, put in order, and the count.
 use native.Mathlib.Omega.{arith}
-use mathlib.Core.Path.{refl, ap}
+use mathlib.Core.Path.{ap}
 use mathlib.Core.Bool.{false}
 use Prim.Native.Nat.{◌+◌, ◌≤◌}
 use lib.ListN.{length}
 use Rattle.rules.specs.Pictures.{stride}
 use Rattle.picture.specs.Shapes.{grid_in}
 use Rattle.picture.proofs.Grids.{Accepted, accepted}
-use Rattle.full_drawing.proofs.Parts.{start_along, part_fits}
+use Rattle.full_drawing.proofs.Parts.{part_fits}
 use Rattle.full_drawing.proofs.ByteRows.{packed_left, next_bytes, flat_drawn}
 use Rattle.full_drawing.proofs.flat.draw_flat.Goals as goal
 use Rattle.full_drawing.proofs.flat.draw_flat.Goals.{In-loop-j, Start}
@@ -17,9 +17,6 @@ grid-ok c = accepted c.args.grid false c.requires.drawable.accepted
 
 pub stride-row-requires : goal.stride-row-requires
 stride-row-requires c = (grid-ok (goal.at.stride-row-requires c).Start).sizes.width.most
-
-pub loop-j-init : goal.loop-j-init
-loop-j-init c = start_along _ _ _ _ _ _ _ refl
 
 -- The row lies within the picture.
 row_fits : (c : In-loop-j)
@@ -37,9 +34,6 @@ draw_row-requires c = record {
   drawable = c.requires.drawable;
   row_value = (c.stride-row.ensures, c.loop-j-test.true, row_fits (goal.at.draw_row-requires c).In-loop-j);
 }
-
-pub overflow_add-from : goal.overflow_add-from
-overflow_add-from c = omega (arith, row_fits (goal.at.overflow_add-from c).In-loop-j)
 
 pub loop-j-preserved : goal.loop-j-preserved
 loop-j-preserved c =

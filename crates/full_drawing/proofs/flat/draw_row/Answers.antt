@@ -5,7 +5,6 @@ use mathlib.Core.Bool.{false}
 use Prim.Native.Nat.{◌*◌, ◌≤◌, ◌<◌}
 use Rattle.picture.specs.Shapes.{grid_in}
 use Rattle.picture.proofs.Grids.{Accepted, accepted}
-use Rattle.full_drawing.proofs.Parts.{start_along}
 use Rattle.full_drawing.proofs.ByteRows.{next_byte, bytes_put}
 use Rattle.full_drawing.proofs.flat.draw_row.Goals as goal
 use Rattle.full_drawing.proofs.flat.draw_row.Goals.{In-loop-c, Start}
@@ -20,19 +19,10 @@ pixel_in : (c : In-loop-c)
 pixel_in c =
     (omega (arith, c.loop-c-test.true, c.requires.row_value.0), (grid-ok (goal.at.In-loop-c c).Start).sizes.width.most)
 
-pub loop-c-init : goal.loop-c-init
-loop-c-init c = start_along _ _ _ _ _ _ _ (omega arith)
-
-pub overflow_mul-c : goal.overflow_mul-c
-overflow_mul-c c = omega (arith, pixel_in (goal.at.overflow_mul-c c).In-loop-c)
-
-pub overflow_cast-c : goal.overflow_cast-c
-overflow_cast-c c = omega (arith, pixel_in (goal.at.overflow_cast-c c).In-loop-c)
-
-pub row_byte-byte-requires : goal.row_byte-byte-requires
-row_byte-byte-requires c = record {
+pub row_byte-requires : goal.row_byte-requires
+row_byte-requires c = record {
   drawable = c.requires.drawable;
-  i_lt_width = ((pixel_in (goal.at.row_byte-byte-requires c).In-loop-c).0, c.requires.row_value.1);
+  i_lt_width = ((pixel_in (goal.at.row_byte-requires c).In-loop-c).0, c.requires.row_value.1);
 }
 
 pub loop-c-preserved : goal.loop-c-preserved
@@ -40,7 +30,7 @@ loop-c-preserved c =
     let a = c.args in
     next_byte a.code.now (grid_in a.grid false) a.j a.from a.picture.now c.loop-c.picture
     c.loop-c.c
-    c.loop-c.invariant c.row_byte-byte.result c.row_byte-byte.ensures (omega (arith, c.loop-c-test.true, c.requires.row_value.0))
+    c.loop-c.invariant c.row_byte.result c.row_byte.ensures (omega (arith, c.loop-c-test.true, c.requires.row_value.0))
     (search rules)
 
 pub returns : goal.returns

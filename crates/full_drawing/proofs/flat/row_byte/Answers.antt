@@ -35,7 +35,7 @@ has_material-on-requires c =
     let i = a.i + c.loop-k.k in record {
       runnable = c.requires.drawable.runnable;
       sample_ok = subst (λ z. SampleOk (sample_in a.grid i a.j z)) (sym (z_is (goal.at.has_material-on-requires c).Start))
-          (flat_ok a.grid (grid-ok (goal.at.has_material-on-requires c).Start) i a.j (omega (arith, c.at_most_8-count.ensures)) c.requires.i_lt_width.1);
+          (flat_ok a.grid (grid-ok (goal.at.has_material-on-requires c).Start) i a.j (omega (arith, c.min-count.ensures)) c.requires.i_lt_width.1);
     }
 
 -- What the call says of the pixel's sample.
@@ -59,4 +59,4 @@ pub returns : goal.returns
 returns c =
     let a = c.args in
     done_pixels a.code.now (grid_in a.grid false) a.i a.j _ c.loop-k.byte c.loop-k.k refl
-    c.at_most_8-count.ensures c.loop-k-test.false c.loop-k.invariant
+    (omega (arith, c.min-count.ensures)) c.loop-k-test.false c.loop-k.invariant

@@ -16,7 +16,7 @@ use Rattle.full_drawing.specs.Full.{sample_in, Says}
 use Rattle.full_drawing.proofs.Columns.{start_climb, next_found, next_passed, climbed}
 use Rattle.full_drawing.proofs.Columns.{solid_layers, solid_ok, solid_sample}
 use Rattle.full_drawing.proofs.solid.column.Goals as goal
-use Rattle.full_drawing.proofs.solid.column.Goals.{After-has_material, After-sample-z, In-loop-k, Start}
+use Rattle.full_drawing.proofs.solid.column.Goals.{After-has_material, After-sample-z, In-loop-k, Start, then-has_material, else-has_material}
 
 -- The grid is accepted.
 grid-ok : (c : Start) → Accepted c.args.grid true
@@ -38,9 +38,6 @@ loop-k-init c = start_climb
 
 pub sample-z-requires : goal.sample-z-requires
 sample-z-requires c = value_there (goal.at.sample-z-requires c).Start _ (omega (arith, c.loop-k-test.true))
-
-pub overflow_add-above : goal.overflow_add-above
-overflow_add-above c = omega (arith, c.loop-k-test.true, ((grid-ok (goal.at.overflow_add-above c).Start).sizes.depth refl).most)
 
 z_is : (c : After-sample-z)
     → let g = c.args.grid in
@@ -75,19 +72,15 @@ pub overflow_cast-height : goal.overflow_cast-height
 overflow_cast-height c =
     omega (arith, c.loop-k-test.true, ((grid-ok (goal.at.overflow_cast-height c).Start).sizes.depth refl).most)
 
-pub loop-k-smaller-then-has_material : goal.loop-k-smaller-then-has_material
-loop-k-smaller-then-has_material c = omega (arith, c.loop-k-test.true)
-
-pub loop-k-preserved-then-has_material : goal.loop-k-preserved-then-has_material
-loop-k-preserved-then-has_material c =
-    next_found c.loop-k.k (layer (goal.at.loop-k-preserved-then-has_material c).In-loop-k) (rw c.if-has_material.true at (said (goal.at.loop-k-preserved-then-has_material c).After-has_material))
-
-pub loop-k-smaller : goal.loop-k-smaller
-loop-k-smaller c = omega (arith, c.loop-k-test.true)
-
 pub loop-k-preserved : goal.loop-k-preserved
 loop-k-preserved c =
-    next_passed c.loop-k.k c.loop-k.height (layer (goal.at.loop-k-preserved c).In-loop-k) c.loop-k.invariant (rw c.if-has_material.false at (said (goal.at.loop-k-preserved c).After-has_material))
+    let l = layer (goal.at.loop-k-preserved c).In-loop-k in
+    let s = said (goal.at.loop-k-preserved c).After-has_material in
+    elim c.if-has_material.branch [
+      | then-has_material w ↦ rw w.height-is (next_found c.loop-k.k l (rw w.if-has_material.true at s))
+      | else-has_material w ↦
+          rw w.height-is (next_passed c.loop-k.k c.loop-k.height l c.loop-k.invariant (rw w.if-has_material.false at s))
+    ]
 
 pub returns : goal.returns
 returns c =

@@ -8,16 +8,13 @@ use lib.ListN.{length}
 use Rattle.picture.specs.Shapes.{grid_in}
 use Rattle.picture.proofs.Grids.{Accepted, accepted}
 use Rattle.full_drawing.proofs.Columns.{solid_layers}
-use Rattle.full_drawing.proofs.Parts.{start_along, part_fits}
+use Rattle.full_drawing.proofs.Parts.{part_fits}
 use Rattle.full_drawing.proofs.HeightRows.{rows_left, next_heights, solid_drawn}
 use Rattle.full_drawing.proofs.solid.draw_solid.Goals as goal
 use Rattle.full_drawing.proofs.solid.draw_solid.Goals.{In-loop-j, Start}
 
 grid-ok : (c : Start) → Accepted c.args.grid true
 grid-ok c = accepted c.args.grid true c.requires.drawable.accepted
-
-pub loop-j-init : goal.loop-j-init
-loop-j-init c = start_along _ _ _ _ _ _ _ refl
 
 -- The row lies within the picture.
 row_fits : (c : In-loop-j)
@@ -33,9 +30,6 @@ draw_row-requires c = record {
   drawable = c.requires.drawable;
   j_lt_height = (c.loop-j-test.true, row_fits (goal.at.draw_row-requires c).In-loop-j);
 }
-
-pub overflow_add-from : goal.overflow_add-from
-overflow_add-from c = omega (arith, row_fits (goal.at.overflow_add-from c).In-loop-j)
 
 pub loop-j-preserved : goal.loop-j-preserved
 loop-j-preserved c =

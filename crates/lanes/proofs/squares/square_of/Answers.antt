@@ -1,27 +1,14 @@
--- `squares::square_of`: by the last size whose square is a value.
+-- `squares::square_of`: by its size.
 use mathlib.Core.Path.{ap, ◌∙◌}
-use native.Mathlib.Omega.{arith}
 use lib.IntN.{pos, nat_abs}
 use mir.Syntax.{w32}
 use mir.Facts.{to_z-of_z}
 use Rattle.rules.proofs.Words.{back}
-use Rattle.lanes.specs.Squares.{low_square}
-use Rattle.lanes.proofs.SquareLaws.{past_last, up_to_last, by_size, size_past, size_up_to, positive}
+use Rattle.lanes.specs.Squares.{clipped_square}
+use Rattle.lanes.proofs.SquareLaws.{by_size}
 use Rattle.lanes.proofs.squares.square_of.Goals as goal
 
-pub overflow_cast-n : goal.overflow_cast-n
-overflow_cast-n c =
-    let u = positive c.args.n c.ranges.n c.requires in rw (to_z-of_z c.ranges.n) (u.up, u.fits)
-
-pub returns-then-n-gt11863283 : goal.returns-then-n-gt11863283
-returns-then-n-gt11863283 c =
-    let h = size_past _ c.args.n (rw (to_z-of_z c.ranges.n) at c.if-n-gt11863283.true) in
-    ap pos (past_last (nat_abs c.args.n) (omega (arith, h))) ∙ by_size c.args.n
-
-pub returns-else-n-gt11863283 : goal.returns-else-n-gt11863283
-returns-else-n-gt11863283 c =
-    let l = c.low_square-low in
-    let s = c.before.before in
-    let h = size_up_to _ s.args.n s.requires (rw (to_z-of_z s.ranges.n) at c.if-n-gt11863283.false) in
-    back w32 l.result l.type_inv (l.ensures ∙ ap (λ z. pos (low_square (nat_abs z))) (to_z-of_z s.ranges.n))
-    ∙ ap pos (up_to_last (nat_abs s.args.n) h) ∙ by_size s.args.n
+pub returns : goal.returns
+returns c =
+    back w32 c.clip.result c.clip.type_inv (c.clip.ensures ∙ ap (λ n. pos (clipped_square n)) c.size_of-n.ensures)
+    ∙ ap (λ z. pos (clipped_square (nat_abs z))) (to_z-of_z c.ranges.a) ∙ by_size c.args.a

@@ -57,14 +57,6 @@ put_clause-requires c =
       in_bytes = c.raised.ensures.bytes;
     }
 
-pub overflow_add-i-in-loop-i : goal.overflow_add-i-in-loop-i
-overflow_add-i-in-loop-i c =
-    let here-sizes : let a = c.args in Sizes a.tape.now a.count = sizes c.args.tape.now c.args.count c.requires.tape in
-    omega (arith, here-sizes.clauses, c.loop-i-test.true)
-
-pub loop-i-smaller : goal.loop-i-smaller
-loop-i-smaller c = omega (arith, c.loop-i-test.true)
-
 pub loop-i-preserved : goal.loop-i-preserved
 loop-i-preserved c =
     next_copying _ _ _ _ _ _ _ c.loop-i.invariant c.loop-i-test.true _ _ _ c.fields_in-f.ensures

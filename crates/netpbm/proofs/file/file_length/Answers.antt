@@ -1,4 +1,4 @@
--- `netpbm::file_length` meets its contract. Assumes nothing.
+-- The digits are those of the sizes.
 use mathlib.Core.Path.{ap}
 use native.Mathlib.Omega.{arith}
 use lib.ListN.{length}

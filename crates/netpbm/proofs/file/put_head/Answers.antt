@@ -1,4 +1,4 @@
--- `netpbm::put_head` meets its contract. Assumes nothing.
+-- The mark, and then the line of sizes.
 use Rattle.netpbm.proofs.Written.{then}
 use Rattle.netpbm.proofs.file.put_head.Goals as goal
 

@@ -1,40 +1,24 @@
--- `netpbm::put_heights` meets its contract. The invariant of its loop: the first i heights are written. The measure is
--- the number left. Assumes nothing.
-use mathlib.Core.Path.{ap}
-use native.Mathlib.Omega.{arith}
-use lib.Bits.{and_mask}
-use lib.ListN.{get_or}
-use lib.Seq.{take_all}
+-- The heights passed are written, and nothing else.
+use Rattle.std.proofs.Common.{refl, arith, ap, ◌∙◌, length, rules}
+use Rattle.std.proofs.Math.Seq.{take_all}
 use Rattle.rules.specs.Pictures.{high_first}
 use Rattle.netpbm.proofs.Written.{nothing, renamed}
-use Rattle.netpbm.proofs.FileRows.{height_more}
+use Rattle.netpbm.proofs.FileRows.{height_more, two_bytes}
 use Rattle.netpbm.proofs.file.put_heights.Goals as goal
 
-pub loop-i-init : goal.loop-i-init
+pub loop-h-init : goal.loop-h-init
 unfolding high_first
-loop-i-init c = (omega arith, omega arith, nothing _ _)
+loop-h-init c = record { place = omega arith; written = nothing _ _ }
 
-pub overflow_cast-high : goal.overflow_cast-high
-overflow_cast-high c = omega (arith, c.shared_slice_known-in-loop-i-1.given c.loop-i.i)
-
-pub overflow_cast-low : goal.overflow_cast-low
-overflow_cast-low c =
-    omega (arith, and_mask (get_or c.args.picture.now c.loop-i.i 0) 8)
-
-pub loop-i-preserved : goal.loop-i-preserved
-loop-i-preserved c =
-    let p = c.args.picture.now in
-    let low = and_mask (get_or p c.loop-i.i 0) 8 in (
-      omega arith,
-      omega arith,
-      height_more p c.loop-i.i _ c.loop-i-test.true low c.loop-i.invariant.2
-          c.put_pair-next.ensures,
-    )
-
-pub shape_of-out : goal.shape_of-out
-shape_of-out c = c.loop-i.invariant.2.size
+pub loop-h-preserved : goal.loop-h-preserved
+loop-h-preserved c =
+    let i = c.loop-h.h-index in
+    let e = c.to_be_bytes.ensures ∙ two_bytes _ (search rules) in
+    record {
+      place = omega (arith, ap length e);
+      written = height_more c.args.picture.now i _ c.loop-h-test.true refl c.loop-h.invariant.written (renamed e c.put-next.ensures);
+    }
 
 pub returns : goal.returns
 returns c =
-    let p = c.args.picture.now in
-    renamed (ap high_first (take_all c.loop-i.i p c.loop-i-test.false)) c.loop-i.invariant.2
+    renamed (ap high_first (take_all c.loop-h.h-index c.args.picture.now c.loop-h-test.false)) c.loop-h.invariant.written

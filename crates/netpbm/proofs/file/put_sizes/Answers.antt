@@ -1,4 +1,4 @@
--- `netpbm::put_sizes` meets its contract: four parts, one after the other. Assumes nothing.
+-- Four parts, one after the other.
 use mathlib.Core.Path.{ap}
 use native.Mathlib.Omega.{arith}
 use lib.ListN.{length}

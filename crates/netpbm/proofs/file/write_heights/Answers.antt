@@ -1,104 +1,48 @@
--- `netpbm::write_heights` meets its contract. Assumes nothing.
-use mathlib.Core.Path.{◌≡◌, sym, ◌∙◌, ap}
-use mathlib.Core.Bool.{true, not}
-use Prim.Native.Nat.{◌+◌, ◌*◌}
-use native.Mathlib.Omega.{arith}
-use lib.ListN.{length}
-use Rattle.rules.specs.Pictures.{sides_ok, decimal, head, height_file, digits_from}
+-- The tests, then the head, the greatest height and the heights.
+use Rattle.std.proofs.Common.{◌≡◌, sym, ap, ◌∙◌, ◌+◌, ◌*◌, arith, length, List, ℕ}
+use Rattle.std.proofs.lemmas.Result.{err_from_is_err_and}
+use Rattle.rules.specs.Pictures.{head, height_file, digits_from}
+use Rattle.netpbm.specs.Files.{sizes_fault}
+use Rattle.promises.specs.Faults.{file_fault}
 use Rattle.netpbm.proofs.Written.{then, whole}
-use Rattle.netpbm.proofs.FileLaws.{told_false, told_true, Sides, sides_right, most_heights, length_head}
-use Rattle.netpbm.proofs.FileLaws.{length_sizes, length_heights, sides_refused, picture_refused, output_refused}
-use Rattle.netpbm.proofs.FileLaws.{made}
-use Rattle.netpbm.proofs.file.write_heights.Goals.{After-file_length, Else-not-sides_ok, Else-out-file_length}
+use Rattle.netpbm.proofs.FileLaws.{Room, roomy, length_heights, length_sizes, length_head, file_refused, file_made}
 use Rattle.netpbm.proofs.file.write_heights.Goals as goal
 
--- The sides are right, once they are tested.
-sides : (c : Else-not-sides_ok) → sides_ok c.args.width c.args.height ≡ true
-sides c = told_true c.sides_ok.ensures (ap not c.if-not-sides_ok.false)
+-- The tests ask for the file's length.
+tested : (w h : ℕ) (p o : List ℕ)
+    → sizes_fault w h (length p) (w * h) (length o) (length (head 53 w h) + (6 + 2 * length p))
+    ≡ file_fault w h (w * h) p (height_file w h p) o
+tested w h p o = ap (sizes_fault w h (length p) (w * h) (length o)) (sym (length_heights w h p))
 
-within : (c : Else-not-sides_ok) → Sides c.args.width c.args.height
-within c = sides_right c.args.width c.args.height (sides c)
+room : (w h : ℕ) (p o : List ℕ)
+    → 0 ≡ sizes_fault w h (length p) (w * h) (length o) (length (head 53 w h) + (6 + 2 * length p))
+    → Room w h (length p) (w * h) (length o) (6 + 2 * length p)
+room w h p o e = roomy 53 w h (length p) (w * h) (length o) (6 + 2 * length p) e
 
--- What is asked of the output's length is the file's length.
-exact : (c : After-file_length) → c.file_length.result
-    ≡ length (height_file c.args.width c.args.height
-    c.args.picture.now)
-exact c =
-    let s = c.args in
-    c.file_length.ensures 53 ∙ sym (length_heights s.width s.height s.picture.now)
-
--- The output has room for each part.
-room : (c : Else-out-file_length) → length c.args.out.now
-    ≡ 5 + length (decimal c.args.width) + length
-    (decimal c.args.height) +
-    (6 + 2 * length c.args.picture.now)
-room c = omega (
-  arith,
-  c.if-out-file_length.false,
-  c.file_length.ensures 53,
-  length_head 53
-      c.args.width c.args.height,
-)
-
-pub returns-then-not-sides_ok : goal.returns-then-not-sides_ok
-returns-then-not-sides_ok c = sides_refused (told_false c.sides_ok.ensures (ap not c.if-not-sides_ok.true))
-
-pub overflow_mul-width : goal.overflow_mul-width
-overflow_mul-width c = omega (arith, most_heights (within c))
-
-pub returns-then-picture-width : goal.returns-then-picture-width
-returns-then-picture-width c =
-    let sides : sides_ok c.args.width c.args.height ≡ true = told_true c.sides_ok.ensures (ap not c.if-not-sides_ok.false) in
-    picture_refused sides c.if-picture-width.true
-
-pub file_length-requires : goal.file_length-requires
-file_length-requires c =
-    let sides : sides_ok c.args.width c.args.height ≡ true = told_true c.sides_ok.ensures (ap not c.if-not-sides_ok.false) in
-    let within : Sides c.args.width c.args.height = sides_right c.args.width c.args.height sides in
-    omega (arith, within, most_heights within)
-
-pub returns-then-out-file_length : goal.returns-then-out-file_length
-returns-then-out-file_length c =
-    let sides : sides_ok c.args.width c.args.height ≡ true = told_true c.sides_ok.ensures (ap not c.if-not-sides_ok.false) in
-    let exact : c.file_length.result ≡ length (height_file c.args.width c.args.height c.args.picture.now) = let s = c.args in c.file_length.ensures 53 ∙ sym (length_heights s.width s.height s.picture.now) in
-    output_refused sides c.if-picture-width.false
-    (λ e. c.if-out-file_length.true (e ∙ sym exact))
+pub returns-in_err-check : goal.returns-in_err-check
+returns-in_err-check c =
+    let a = c.args in
+    let p = err_from_is_err_and c.from_residual.result c.from_residual.ensures.1 in
+    rw (p.1, p.2) (file_refused _ (c.in_err-check.ensures 53 ∙ tested a.width a.height a.picture.now a.out.now))
 
 pub put_head-top-requires : goal.put_head-top-requires
 put_head-top-requires c =
-    let room : length c.args.out.now ≡ 5 + length (decimal c.args.width) + length (decimal c.args.height) + (6 + 2 * length c.args.picture.now) = omega (arith, c.if-out-file_length.false, c.file_length.ensures 53, length_head 53 c.args.width c.args.height) in
-    let sides : sides_ok c.args.width c.args.height ≡ true = told_true c.sides_ok.ensures (ap not c.if-not-sides_ok.false) in
-    let within : Sides c.args.width c.args.height = sides_right c.args.width c.args.height sides in
-    omega (arith, room, within)
+    let m = room c.args.width c.args.height c.args.picture.now c.args.out.now (c.in_ok-check.ensures 53) in
+    record { width_bound = omega (arith, m); height_bound = omega (arith, m); height_in_bounds = omega (arith, m) }
 
 pub put-rows-requires : goal.put-rows-requires
 put-rows-requires c =
-    let room : length c.args.out.now ≡ 5 + length (decimal c.args.width) + length (decimal c.args.height) + (6 + 2 * length c.args.picture.now) = omega (arith, c.if-out-file_length.false, c.file_length.ensures 53, length_head 53 c.args.width c.args.height) in
-    omega (
-      arith,
-      room,
-      c.put_head-top.ensures,
-      length_sizes c.args.width
-          c.args.height,
-    )
+    omega (arith, room c.args.width c.args.height c.args.picture.now c.args.out.now (c.in_ok-check.ensures 53), c.put_head-top.ensures, length_sizes c.args.width c.args.height)
 
 pub put_heights-requires : goal.put_heights-requires
 put_heights-requires c =
-    let room : length c.args.out.now ≡ 5 + length (decimal c.args.width) + length (decimal c.args.height) + (6 + 2 * length c.args.picture.now) = omega (arith, c.if-out-file_length.false, c.file_length.ensures 53, length_head 53 c.args.width c.args.height) in
-    omega (
-      arith,
-      room,
-      c.put_head-top.ensures,
-      c.put-rows.ensures,
-      length_sizes
-          c.args.width c.args.height,
-    )
+    omega (arith, room c.args.width c.args.height c.args.picture.now c.args.out.now (c.in_ok-check.ensures 53), c.put_head-top.ensures, c.put-rows.ensures, length_sizes c.args.width c.args.height)
 
 pub returns : goal.returns
 unfolding height_file head digits_from
 returns c =
-    let exact : c.file_length.result ≡ length (height_file c.args.width c.args.height c.args.picture.now) = let s = c.args in c.file_length.ensures 53 ∙ sym (length_heights s.width s.height s.picture.now) in
-    let sides : sides_ok c.args.width c.args.height ≡ true = told_true c.sides_ok.ensures (ap not c.if-not-sides_ok.false) in
-    let size = c.if-out-file_length.false ∙ exact in
-    made sides c.if-picture-width.false size
-    (whole (then c.put_head-top.ensures (then c.put-rows.ensures c.put_heights.ensures)) size)
+    let a = c.args in
+    let e = c.in_ok-check.ensures 53 ∙ tested a.width a.height a.picture.now a.out.now in
+    let m = room c.args.width c.args.height c.args.picture.now c.args.out.now (c.in_ok-check.ensures 53) in
+    file_made e
+    (whole (then c.put_head-top.ensures (then c.put-rows.ensures c.put_heights.ensures)) (omega (arith, m, length_heights a.width a.height a.picture.now, length_head 53 a.width a.height)))

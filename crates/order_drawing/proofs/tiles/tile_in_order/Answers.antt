@@ -15,8 +15,8 @@ cell_at-all-requires c =
     let e = c.requires.solid.ready.fault in
     record { small = small true _ e; place = first_in_lem true _ e; some = omega arith; few = omega arith }
 
-pub loop-i-init : goal.loop-i-init
-loop-i-init c =
+pub loop-number-init : goal.loop-number-init
+loop-number-init c =
     let r = c.requires.solid.ready in (
       begins _ _ (c.clear.ensures ∙ ap (λ n. replicate n 0) r.size) refl,
       refl,
@@ -27,26 +27,26 @@ loop-i-init c =
       refl,
     )
 
-pub overflow_cast-order : goal.overflow_cast-order
-overflow_cast-order c = omega (arith, c.type_inv.order c.loop-i.i)
+pub overflow_cast-number : goal.overflow_cast-number
+overflow_cast-number c = omega (arith, c.type_inv.order c.loop-number.number-index)
 
 pub child-cell-requires : goal.child-cell-requires
 child-cell-requires c =
     let k = c.cell_at-all.ensures in
     let p = c.requires in
     let e = p.solid.ready.fault in
-    record { parent = parent k e; more = numbered k e _ p.list c.loop-i.i c.loop-i-test.true }
+    record { parent = parent k e; more = numbered k e _ p.list c.loop-number.number-index c.loop-number-test.true }
 
 pub slice_bounds-visit_tile-end : goal.slice_bounds-visit_tile-end
 slice_bounds-visit_tile-end c =
-    sym c.loop-i.invariant.5
+    sym c.loop-number.invariant.5
 
-pub slice_bounds-visit_tile-end-in-loop-i : goal.slice_bounds-visit_tile-end-in-loop-i
-slice_bounds-visit_tile-end-in-loop-i c = sym c.loop-i.invariant.6
+pub slice_bounds-visit_tile-end-in-loop-number : goal.slice_bounds-visit_tile-end-in-loop-number
+slice_bounds-visit_tile-end-in-loop-number c = sym c.loop-number.invariant.6
 
 pub visit_tile-count-requires : goal.visit_tile-count-requires
 visit_tile-count-requires c =
-    let i = c.loop-i.invariant in
+    let i = c.loop-number.invariant in
     let k = c.child-cell.ensures in
     let a = c.requires.solid in
     record {
@@ -68,31 +68,19 @@ pub overflow_add-count : goal.overflow_add-count
 overflow_add-count c =
     let p = c.requires in
     let few = orders_few c.cell_at-all.ensures p.solid.ready.fault _ p.list in
-    let sum = sum_most c.loop-i.invariant.0 few c.loop-i-test.true c.visit_tile-count.ensures.bound in
+    let sum = sum_most c.loop-number.invariant.0 few c.loop-number-test.true c.visit_tile-count.ensures.bound in
     omega (arith, sound_length p.solid.level.sound, sum)
 
-pub overflow_add-i : goal.overflow_add-i
-overflow_add-i c =
-    let p = c.requires in
-    omega (
-      arith,
-      c.loop-i-test.true,
-      orders_few c.cell_at-all.ensures p.solid.ready.fault _ p.list,
-    )
-
-pub loop-i-smaller : goal.loop-i-smaller
-loop-i-smaller c = omega (arith, c.loop-i-test.true)
-
-pub loop-i-preserved : goal.loop-i-preserved
-loop-i-preserved c =
+pub loop-number-preserved : goal.loop-number-preserved
+loop-number-preserved c =
     let v = c.visit_tile-count in
     let k = c.cell_at-all.ensures in
     let p = c.requires in
     let e = p.solid.ready.fault in
-    let i = c.loop-i.invariant in
+    let i = c.loop-number.invariant in
     let kept = v.auto.picture in
-    let h = numbered k e _ p.list c.loop-i.i c.loop-i-test.true in (
-      again i.0 e c.loop-i-test.true (tile_is k e c.child-cell.ensures h) v.ensures c.visit_tile-count.auto.picture,
+    let h = numbered k e _ p.list c.loop-number.number-index c.loop-number-test.true in (
+      again i.0 e c.loop-number-test.true (tile_is k e c.child-cell.ensures h) v.ensures c.visit_tile-count.auto.picture,
       c.visit_tile-count.auto.work ∙ i.1,
       c.visit_tile-count.auto.first ∙ i.2,
       c.visit_tile-count.auto.second ∙ i.3,
@@ -102,19 +90,19 @@ loop-i-preserved c =
     )
 
 pub shape_of-picture : goal.shape_of-picture
-shape_of-picture c = c.loop-i.invariant.0.size ∙ c.clear.auto.heights
+shape_of-picture c = c.loop-number.invariant.0.size ∙ c.clear.auto.heights
 
 pub shape_of-work : goal.shape_of-work
-shape_of-work c = c.loop-i.invariant.1
+shape_of-work c = c.loop-number.invariant.1
 
 pub shape_of-first : goal.shape_of-first
-shape_of-first c = c.loop-i.invariant.2
+shape_of-first c = c.loop-number.invariant.2
 
 pub shape_of-second : goal.shape_of-second
-shape_of-second c = c.loop-i.invariant.3
+shape_of-second c = c.loop-number.invariant.3
 
 pub shape_of-third : goal.shape_of-third
-shape_of-third c = c.loop-i.invariant.4
+shape_of-third c = c.loop-number.invariant.4
 
 pub returns : goal.returns
-returns c = done c.loop-i.invariant.0 (omega (arith, c.loop-i-test.false, c.loop-i.invariant.0.few))
+returns c = done c.loop-number.invariant.0 (omega (arith, c.loop-number-test.false, c.loop-number.invariant.0.few))

@@ -1,49 +1,24 @@
--- `bits::fill_row` meets its contract. The loop's invariant: the pixels of the bytes passed are material, and nothing
--- else has changed, neither bit nor byte.
-use mathlib.Core.Path.{◌≡◌, ◌∙◌, refl}
-use Prim.Native.Nat.{◌+◌, ◌-◌, ◌/◌}
-use native.Mathlib.Omega.{arith}
-use Rattle.picture.proofs.BitMarks.{fill_start, fill_byte, fill_last}
-use Rattle.picture.proofs.PartLaws.{kept_none, kept_more}
+-- `bits::fill_row` meets its contract: whole bytes are lent as a part and filled, then the last is painted.
+use Rattle.std.proofs.Common.{◌+◌, ◌-◌, ◌/◌, arith, refl, ◌∙◌}
+use Rattle.std.proofs.lemmas.List.{places}
+use borrow.Rule.Slice.PartMut.{put_mid}
+use Rattle.std.proofs.Common.{replicate, rules, length, ◌≡◌}
+use Rattle.picture.proofs.BitMarks.{fill_bytes, fill_last}
+use Rattle.picture.proofs.LentParts.{kept_part}
+use Rattle.picture.proofs.PartLaws.{kept_more}
 use Rattle.picture.proofs.bits.fill_row.Goals as goal
-
-pub loop-i-init : goal.loop-i-init
-loop-i-init c =
-    let a = c.args in
-    (omega arith, (fill_start a.at a.picture.now, kept_none a.at a.picture.now))
-
-pub bounds-picture-i : goal.bounds-picture-i
-bounds-picture-i c = omega (arith, c.loop-i.invariant.1.0.size)
-
-pub loop-i-preserved : goal.loop-i-preserved
-loop-i-preserved c =
-    let a = c.args in
-    let m = c.loop-i in (
-      omega arith,
-      (
-        fill_byte a.at m.i a.picture.now m.picture (omega arith) (omega (arith, m.invariant.1.0.size))
-            m.invariant.1.0,
-        kept_more a.at m.i (m.i + 1) 255 a.picture.now m.picture (omega arith) (omega arith)
-            m.invariant.1.1,
-      ),
-    )
-
-pub paint-requires : goal.paint-requires
-paint-requires c = omega (arith, c.loop-i.invariant.1.0.size)
-
-pub shape_of-picture : goal.shape_of-picture
-shape_of-picture c = c.paint.auto.picture
-    ∙ c.loop-i.invariant.1.0.size
 
 pub returns : goal.returns
 returns c =
-    let m = c.loop-i in
     let a = c.args in
-    let e : m.i ≡ a.at + (a.count - 1) / 8 = omega arith in
-    let last = (a.at + (a.count - 1) / 8) in
+    let last = a.at + (a.count - 1) / 8 in
+    let n = last - a.at in
+    let filled : c.fill.new.self ≡ replicate n 255 = search rules in
+    let p = put_mid a.at n a.picture.now c.fill.new.self in
+    let long : length p ≡ length a.picture.now = search (rules, places) in
     rw c.paint.ensures (record {
-      marked = fill_last a.at a.count last c.first_pixels.result a.picture.now m.picture (omega arith) refl
-          (omega (arith, m.invariant.1.0.size)) c.first_pixels.ensures (rw e at m.invariant.1.0);
-      kept_outside = kept_more a.at last (a.at + (a.count + 7) / 8) _ a.picture.now m.picture (omega arith) (omega arith)
-          (rw e at m.invariant.1.1);
+      marked = fill_last a.at a.count last c.first_pixels.result a.picture.now p c.requires.some refl (omega arith)
+          c.first_pixels.ensures (rw filled (fill_bytes a.at n a.picture.now (omega arith)));
+      kept_outside = kept_more a.at last (a.at + (a.count + 7) / 8) _ a.picture.now p (omega arith) (omega arith)
+          (kept_part a.at n a.picture.now _ last (omega arith) (omega arith) (c.fill.auto.self ∙ search (rules, places)));
     })

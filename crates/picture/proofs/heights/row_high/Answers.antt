@@ -1,16 +1,13 @@
--- The test of a row: the test of what is left of it, from here, says what the whole test says.
-use Rattle.rules.specs.Drawings.{row_high}
-use Rattle.picture.proofs.HeightRows.{starts, high_ends, high_next, low_ends}
+-- The test of a row, height by height.
+use Rattle.std.proofs.Common.{◌<◌, ◌≤◌, ◌+◌, ◌-◌, rules, arith}
+use Rattle.std.proofs.lemmas.Iterator.{cases_from_all, YieldsList-from_slice}
+use borrow.Author.Tests.{tests}
+use Rattle.picture.proofs.HeightRows.{row_tested}
 use Rattle.picture.proofs.heights.row_high.Goals as goal
 
-pub loop-i-init : goal.loop-i-init
-loop-i-init c = starts (λ n. row_high n c.args.from c.args.z c.args.heights.now) _ _ _ c.requires
-
-pub returns-then-heights-i : goal.returns-then-heights-i
-returns-then-heights-i c = low_ends _ _ c.loop-i.invariant c.loop-i-test.true c.if-heights-i.true
-
-pub loop-i-preserved : goal.loop-i-preserved
-loop-i-preserved c = high_next _ _ c.loop-i.invariant c.loop-i-test.true c.if-heights-i.false
-
 pub returns : goal.returns
-returns c = high_ends _ _ c.loop-i.invariant c.loop-i-test.false
+returns c =
+    let a = c.args in
+    row_tested a.count (a.from + a.count - a.from) a.from a.z a.heights.now _ c.requires (omega arith)
+    (cases_from_all _ _ _ (λ x. a.z ≤ x) (λ x. x < a.z) c.all.ensures.ran (YieldsList-from_slice _ cc)
+    (λ x q k. search (rules, tests)) (λ x q k. search (rules, tests)))

@@ -5,7 +5,7 @@ use Rattle.probe.proofs.call.probe_side.Goals as goal
 
 pub returns : goal.returns
 returns c =
-    let p = c.probe-p.ensures in
+    let p = c.probe-probed.ensures in
     record {
       answer = p.answer;
       side = c.side_number.ensures ∙ ap side_number p.side;

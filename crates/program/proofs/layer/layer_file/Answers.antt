@@ -9,7 +9,7 @@ use Rattle.program.proofs.layer.layer_file.Goals as goal
 
 pub returns-then-not-record_ok : goal.returns-then-not-record_ok
 returns-then-not-record_ok c =
-    no_record _ _ _ (told_false c.record_ok.ensures (ap not c.if-not-record_ok.true)) c.no_drawing.ensures
+    rw c.into.ensures (no_record _ _ (told_false c.record_ok.ensures (ap not c.if-not-record_ok.true)))
 
 pub read_grid-grid-requires : goal.read_grid-grid-requires
 read_grid-grid-requires c =
@@ -19,9 +19,9 @@ read_grid-grid-requires c =
 pub returns-then-too_large : goal.returns-then-too_large
 returns-then-too_large c =
     let ok : record_ok c.args.input.now ≡ true = told_true c.record_ok.ensures (ap not c.if-not-record_ok.false) in
-    solid_too_large _ _ _ ok
-    (sym (ap too_large c.read_grid-grid.ensures) ∙ sym c.too_large.ensures ∙ c.if-too_large.true)
-    c.no_drawing-then-too_large.ensures
+    rw c.into-then-too_large.ensures
+    (solid_too_large _ _ ok
+    (sym (ap too_large c.read_grid-grid.ensures) ∙ sym c.too_large.ensures ∙ c.if-too_large.true))
 
 pub slice_bounds-tape-count : goal.slice_bounds-tape-count
 slice_bounds-tape-count c =

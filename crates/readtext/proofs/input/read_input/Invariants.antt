@@ -1,8 +1,5 @@
-use Rattle.std.proofs.Common.{length, ◌-◌, ◌≤◌, ◌≡◌}
+use Rattle.std.proofs.Common.{length, ◌-◌}
 use Rattle.readtext.proofs.input.read_input.Given as goal
 
-abbrev pub invariant-loop-size : goal.invariant-loop-size
-invariant-loop-size g l = (length l.text ≡ length l.initial.text) × (l.size ≤ length l.text)
-
 abbrev pub decreases-loop-size : goal.decreases-loop-size
-decreases-loop-size g l = length l.text - l.size
+decreases-loop-size g l = length l.room - l.size

@@ -1,15 +1,26 @@
 -- The lines of tape and grid, then the pixel's and the work buffer's.
-use mathlib.Core.Path.{ap₂}
-use mathlib.Core.Bool.{false}
-use mathlib.Core.List.{[], ◌∷◌}
-use Rattle.picture.specs.Shapes.{grid_in}
-use Rattle.answers.specs.Lines.{grid_lines}
-use Rattle.answers.proofs.Ends.{next_stage}
+use Rattle.std.proofs.lemmas.Result.{err_from_is_err_and}
+use Rattle.answers.proofs.Chains.{stage_refuses, line_refuses, line_passes}
 use Rattle.reason.proofs.lines.check_pixel.Goals as goal
+
+pub returns-in_err-check_grid : goal.returns-in_err-check_grid
+returns-in_err-check_grid c =
+    let p = err_from_is_err_and c.from_residual.result c.from_residual.ensures.1 in
+    rw (p.1, p.2) (stage_refuses _ c.in_err-check_grid.ensures)
+
+pub returns-in_err-check_inside : goal.returns-in_err-check_inside
+returns-in_err-check_inside c =
+    let r = c.from_residual-in_err-check_inside in
+    let p = err_from_is_err_and r.result r.ensures.1 in
+    rw (p.1, p.2) (line_refuses _ c.in_ok-check_grid.ensures c.in_err-check_inside.ensures)
+
+pub returns-in_err-check_work : goal.returns-in_err-check_work
+returns-in_err-check_work c =
+    let r = c.from_residual-in_err-check_work in
+    let p = err_from_is_err_and r.result r.ensures.1 in
+    rw (p.1, p.2)
+    (line_refuses _ (line_passes c.in_ok-check_grid.ensures c.in_ok-check_inside.ensures) c.in_err-check_work.ensures)
 
 pub returns : goal.returns
 returns c =
-    let a = c.args in
-    next_stage (grid_lines false a.tape.now (grid_in a.grid false)) _
-    c.check_grid-checked.ensures c.refused.ensures c.first_fault.ensures
-    (ap₂ (λ a b. a ∷ (b ∷ [])) c.pixel_fault-pixel_line.ensures c.work_fault-work_line.ensures)
+    line_passes (line_passes c.in_ok-check_grid.ensures c.in_ok-check_inside.ensures) c.in_ok-check_work.ensures

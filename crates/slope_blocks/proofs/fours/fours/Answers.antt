@@ -8,7 +8,7 @@ use Rattle.walk.specs.Children.{Parent, children_in}
 use Rattle.walk.proofs.CellLaws.{small}
 use Rattle.slope_pixels.proofs.ShadeLaws.{fits_again}
 use Rattle.slope_blocks.specs.Blocks.{cell_of}
-use Rattle.slope_blocks.proofs.BlockLoop.{block_parent, blocks_few, child_block, blocks_begin}
+use Rattle.slope_blocks.proofs.BlockLoop.{block_parent, blocks_few, part_block, blocks_begin}
 use Rattle.slope_blocks.proofs.BlockLoop.{blocks_again, blocks_done}
 use Rattle.slope_blocks.proofs.fours.fours.Goals as goal
 use Rattle.slope_blocks.proofs.fours.fours.Goals.{In-loop-m, Start}
@@ -28,16 +28,16 @@ few c =
 
 more : (c : In-loop-m)
     → c.loop-m.m < length (children_in (cell_of 16 c.args.block) 4)
-more c = omega (arith, c.loop-m-test.true, c.child_count-end.ensures)
+more c = omega (arith, c.loop-m-test.true, c.part_count-m-end.ensures)
 
-pub child_count-end-requires : goal.child_count-end-requires
-child_count-end-requires c = parent (goal.at.child_count-end-requires c).Start
+pub part_count-m-end-requires : goal.part_count-m-end-requires
+part_count-m-end-requires c = parent (goal.at.part_count-m-end-requires c).Start
 
 pub loop-m-init : goal.loop-m-init
 loop-m-init c = (blocks_begin (parent (goal.at.loop-m-init c).Start) _, refl, refl)
 
-pub child-cell-requires : goal.child-cell-requires
-child-cell-requires c = record { parent = parent (goal.at.child-cell-requires c).Start; more = more (goal.at.child-cell-requires c).In-loop-m }
+pub part_of-four-requires : goal.part_of-four-requires
+part_of-four-requires c = record { parent = parent (goal.at.part_of-four-requires c).Start; more = more (goal.at.part_of-four-requires c).In-loop-m }
 
 pub visit_four-requires : goal.visit_four-requires
 visit_four-requires c =
@@ -46,25 +46,18 @@ visit_four-requires c =
     record {
       level = p.level;
       fits = fits_again p.fits i.0.size;
-      block = (child_block p.block c.child-cell.ensures).block;
+      block = part_block p.block c.part_of-four.ensures;
       window = p.window;
       marks = omega (arith, p.marks, i.1);
       words = omega (arith, p.words, i.2);
     }
-
-pub overflow_add-m : goal.overflow_add-m
-overflow_add-m c =
-    omega (arith, more (goal.at.overflow_add-m c).In-loop-m, few (goal.at.overflow_add-m c).Start)
-
-pub loop-m-smaller : goal.loop-m-smaller
-loop-m-smaller c = omega (arith, c.loop-m-test.true)
 
 pub loop-m-preserved : goal.loop-m-preserved
 loop-m-preserved c =
     let v = c.visit_four in
     let i = c.loop-m.invariant in
     let p = c.requires in (
-      blocks_again 16 4 c.loop-m.m p.block i.0 c.child-cell.ensures v.ensures v.auto.slopes,
+      blocks_again 16 4 c.loop-m.m p.block i.0 c.part_of-four.ensures v.ensures v.auto.slopes,
       v.auto.work ∙ i.1,
       v.auto.second ∙ i.2,
     )
@@ -80,5 +73,5 @@ shape_of-second c = c.loop-m.invariant.2
 
 pub returns : goal.returns
 returns c =
-    let e = c.child_count-end.ensures in
+    let e = c.part_count-m-end.ensures in
     blocks_done 16 4 c.loop-m.m c.requires.block c.loop-m.invariant.0 (omega (arith, c.loop-m-test.false))

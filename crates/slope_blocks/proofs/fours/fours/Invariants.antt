@@ -3,14 +3,11 @@ use mathlib.Core.Path.{◌≡◌}
 use Prim.Native.Nat.{◌-◌}
 use lib.ListN.{length, drop}
 use Rattle.walk.specs.Children.{children_in}
-use Rattle.slope_blocks.specs.Blocks.{block_of}
+use Rattle.slope_blocks.specs.Blocks.{cell_of}
 use Rattle.slope_blocks.proofs.BlockLoop.{AtBlock}
 use Rattle.slope_blocks.proofs.fours.fours.Given as goal
 
 abbrev pub invariant-loop-m : goal.invariant-loop-m
-invariant-loop-m l = AtBlock l.code l.grid l.picture l.window (block_of l.parent) (drop l.m (children_in l.parent 4)) l.initial.slopes l.slopes
+invariant-loop-m l = AtBlock l.code l.grid l.picture l.window l.block (drop l.m (children_in (cell_of 16 l.block) 4)) l.initial.slopes l.slopes
     × (length l.work ≡ length l.initial.work)
     × (length l.second ≡ length l.initial.second)
-
-abbrev pub decreases-loop-m : goal.decreases-loop-m
-decreases-loop-m l = l.end - l.m

@@ -7,7 +7,7 @@ use lib.ListN.{length}
 use Rattle.walk.specs.Children.{Parent, children_in}
 use Rattle.walk.proofs.CellLaws.{small}
 use Rattle.slope_blocks.specs.Blocks.{cell_of}
-use Rattle.slope_blocks.proofs.BlockLoop.{block_parent, blocks_few, child_block, blocks_begin}
+use Rattle.slope_blocks.proofs.BlockLoop.{block_parent, blocks_few, part_block, blocks_begin}
 use Rattle.slope_blocks.proofs.BlockLoop.{blocks_again, blocks_done}
 use Rattle.slope_blocks.proofs.WindowLaws.{lent_again}
 use Rattle.slope_blocks.proofs.sixteens.sixteens.Goals as goal
@@ -28,16 +28,16 @@ few c =
 
 more : (c : In-loop-m)
     → c.loop-m.m < length (children_in (cell_of 512 c.args.block) 16)
-more c = omega (arith, c.loop-m-test.true, c.child_count-end.ensures)
+more c = omega (arith, c.loop-m-test.true, c.part_count-m-end.ensures)
 
-pub child_count-end-requires : goal.child_count-end-requires
-child_count-end-requires c = parent (goal.at.child_count-end-requires c).Start
+pub part_count-m-end-requires : goal.part_count-m-end-requires
+part_count-m-end-requires c = parent (goal.at.part_count-m-end-requires c).Start
 
 pub loop-m-init : goal.loop-m-init
 loop-m-init c = (blocks_begin (parent (goal.at.loop-m-init c).Start) _, refl, refl, refl)
 
-pub child-cell-requires : goal.child-cell-requires
-child-cell-requires c = record { parent = parent (goal.at.child-cell-requires c).Start; more = more (goal.at.child-cell-requires c).In-loop-m }
+pub part_of-sixteen-requires : goal.part_of-sixteen-requires
+part_of-sixteen-requires c = record { parent = parent (goal.at.part_of-sixteen-requires c).Start; more = more (goal.at.part_of-sixteen-requires c).In-loop-m }
 
 pub visit_sixteen-requires : goal.visit_sixteen-requires
 visit_sixteen-requires c =
@@ -45,22 +45,15 @@ visit_sixteen-requires c =
     let p = c.requires in
     record {
       lent = lent_again p.lent i.0.size i.1 i.2 i.3;
-      block = (child_block p.block c.child-cell.ensures).block;
+      block = part_block p.block c.part_of-sixteen.ensures;
     }
-
-pub overflow_add-m : goal.overflow_add-m
-overflow_add-m c =
-    omega (arith, more (goal.at.overflow_add-m c).In-loop-m, few (goal.at.overflow_add-m c).Start)
-
-pub loop-m-smaller : goal.loop-m-smaller
-loop-m-smaller c = omega (arith, c.loop-m-test.true)
 
 pub loop-m-preserved : goal.loop-m-preserved
 loop-m-preserved c =
     let v = c.visit_sixteen in
     let i = c.loop-m.invariant in
     let p = c.requires in (
-      blocks_again 512 16 c.loop-m.m p.block i.0 c.child-cell.ensures v.ensures v.auto.slopes,
+      blocks_again 512 16 c.loop-m.m p.block i.0 c.part_of-sixteen.ensures v.ensures v.auto.slopes,
       v.auto.work ∙ i.1,
       v.auto.first ∙ i.2,
       v.auto.second ∙ i.3,
@@ -80,5 +73,5 @@ shape_of-second c = c.loop-m.invariant.3
 
 pub returns : goal.returns
 returns c =
-    let e = c.child_count-end.ensures in
+    let e = c.part_count-m-end.ensures in
     blocks_done 512 16 c.loop-m.m c.requires.block c.loop-m.invariant.0 (omega (arith, c.loop-m-test.false))

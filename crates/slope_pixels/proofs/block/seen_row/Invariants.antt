@@ -1,11 +1,7 @@
 -- One row of heights.
-use Prim.Native.Nat.{◌-◌}
 use Rattle.slope_pixels.specs.Shades.{row_of}
 use Rattle.slope_pixels.proofs.SeenLaws.{SeenColumns}
 use Rattle.slope_pixels.proofs.block.seen_row.Given as goal
 
 abbrev pub invariant-loop-x : goal.invariant-loop-x
-invariant-loop-x l = SeenColumns l.grid l.picture (row_of l.block l.y) l.all l.initial.seen l.seen l.x
-
-abbrev pub decreases-loop-x : goal.decreases-loop-x
-decreases-loop-x l = l.block.xend - l.x
+invariant-loop-x l = SeenColumns l.grid l.picture (row_of l.fn.block l.fn.y) l.all l.initial.seen l.seen l.x

@@ -20,6 +20,7 @@ use Rattle.slope_pixels.proofs.ShadeLaws.{sample_ok_lem, pixel_low, pixel_high, 
 use borrow.Author.Rules.{rules}
 use Rattle.slope_pixels.proofs.pixels.shade_pixel.Goals as goal
 use Rattle.slope_pixels.proofs.pixels.shade_pixel.Goals.{After-sample-3, Start, Else-window-height}
+use Rattle.slope_pixels.proofs.pixels.shade_pixel.Goals.{then-height-window-via-then-height-window, then-height-window-via-else-height-window+then-window-height}
 
 -- The grid's numbers as words.
 told : (c : Start) → InWords c.args.grid
@@ -89,15 +90,14 @@ overflow_cast-height c =
     let d = (small true _ p.fault).depth in
     omega (arith, d, p.most (a.pixel.y * a.grid.width + a.pixel.x))
 
+-- Below the window, or above it.
 pub returns-then-height-window : goal.returns-then-height-window
 returns-then-height-window c = record {
-  shading = pixel_low c.args.pixel.x c.args.pixel.y _ c.if-height-window.true;
-  sized = c.requires.sized;
-}
-
-pub returns-then-window-height : goal.returns-then-window-height
-returns-then-window-height c = record {
-  shading = pixel_high c.args.pixel.x c.args.pixel.y _ c.if-window-height.true;
+  shading = elim c.then-height-window.branch [
+    | then-height-window-via-then-height-window w ↦ pixel_low c.args.pixel.x c.args.pixel.y _ w.if-height-window.true
+    | then-height-window-via-else-height-window+then-window-height w ↦
+        pixel_high c.args.pixel.x c.args.pixel.y _ w.if-window-height.true
+  ];
   sized = c.requires.sized;
 }
 

@@ -1,8 +1,6 @@
 -- One row of pixels.
-use mathlib.Core.Bool.{true}
 use Prim.Native.Nat.{◌+◌}
 use native.Mathlib.Omega.{arith}
-use Rattle.walk.proofs.CellLaws.{small}
 use Rattle.slope_pixels.proofs.ShadeLaws.{fits_again, columns_begin, columns_next, columns_done}
 use Rattle.slope_pixels.proofs.ShadeLaws.{pixel_of_row}
 use Rattle.slope_pixels.proofs.pixels.shade_row.Goals as goal
@@ -21,15 +19,6 @@ shade_pixel-requires c =
       y_in = omega (arith, p.block.y_some, p.block.y_in);
       sized = i.1;
     }
-
-pub overflow_add-x : goal.overflow_add-x
-overflow_add-x c =
-    let p = c.requires in
-    let d = (small true _ p.fits.heights.fault).width in
-    omega (arith, c.loop-x-test.true, p.block.x_in, d)
-
-pub loop-x-smaller : goal.loop-x-smaller
-loop-x-smaller c = omega (arith, c.loop-x-test.true)
 
 pub loop-x-preserved : goal.loop-x-preserved
 loop-x-preserved c =

@@ -1,24 +1,13 @@
 -- The rows of a block.
 use mathlib.Core.Path.{refl}
-use mathlib.Core.Bool.{true}
-use Prim.Native.Nat.{◌+◌, ◌<◌}
+use Prim.Native.Nat.{◌+◌}
 use native.Mathlib.Omega.{arith}
-use Rattle.walk.proofs.CellLaws.{small}
 use Rattle.slope_pixels.proofs.ShadeLaws.{row_in, fits_again, rows_begin, rows_next, rows_done}
 use Rattle.slope_pixels.proofs.pixels.shade_rows.Goals as goal
 use Rattle.slope_pixels.proofs.pixels.shade_rows.Goals.{In-loop-y}
 
 pub loop-y-init : goal.loop-y-init
 loop-y-init c = (rows_begin c.requires.block _, record { values = refl; xs = refl; ys = refl; zs = refl })
-
-below : (c : In-loop-y) → c.loop-y.y < 512
-below c =
-    let p = c.requires in
-    let d = (small true _ p.fits.heights.fault).height in
-    omega (arith, c.loop-y-test.true, p.block.y_in, d)
-
-pub overflow_add-next : goal.overflow_add-next
-overflow_add-next c = omega (arith, below (goal.at.overflow_add-next c).In-loop-y)
 
 pub shade_row-requires : goal.shade_row-requires
 shade_row-requires c =
@@ -31,9 +20,6 @@ shade_row-requires c =
       one = refl;
       sized = i.1;
     }
-
-pub loop-y-smaller : goal.loop-y-smaller
-loop-y-smaller c = omega (arith, c.loop-y-test.true)
 
 pub loop-y-preserved : goal.loop-y-preserved
 loop-y-preserved c =

@@ -64,12 +64,6 @@ is_hidden-requires c =
     record { ready = ready_again p.ready c.loop-m.invariant.0.size; cell = c.child-cell.ensures.ok _ _ p.cell }
 
 -- A child that is hidden.
-pub overflow_add-m : goal.overflow_add-m
-overflow_add-m c = omega (arith, more (goal.at.overflow_add-m c).In-loop-m, few (goal.at.overflow_add-m c).Start)
-
-pub loop-m-smaller-then-is_hidden : goal.loop-m-smaller-then-is_hidden
-loop-m-smaller-then-is_hidden c = omega (arith, c.loop-m-test.true)
-
 pub loop-m-preserved-then-is_hidden : goal.loop-m-preserved-then-is_hidden
 loop-m-preserved-then-is_hidden c =
     let i = c.loop-m.invariant in (
@@ -141,12 +135,6 @@ pub overflow_add-count : goal.overflow_add-count
 overflow_add-count c =
     let sum = child_sum c.loop-m.invariant.0 64 (more (goal.at.overflow_add-count c).In-loop-m) (few (goal.at.overflow_add-count c).Start) c.visit_four-count.ensures.visits.bound in
     omega (arith, sound_length c.requires.for_fours.level.sound, sum)
-
-pub overflow_add-m-else-is_hidden : goal.overflow_add-m-else-is_hidden
-overflow_add-m-else-is_hidden c = omega (arith, more (goal.at.overflow_add-m-else-is_hidden c).In-loop-m, few (goal.at.overflow_add-m-else-is_hidden c).Start)
-
-pub loop-m-smaller : goal.loop-m-smaller
-loop-m-smaller c = omega (arith, c.loop-m-test.true)
 
 pub loop-m-preserved : goal.loop-m-preserved
 loop-m-preserved c =

@@ -16,6 +16,3 @@ invariant-loop-m l = AtChild true 4 65 l.code l.grid below4 l.parent l.initial.p
     × (length l.slots ≡ block_rows)
     × (length l.choices ≡ length l.initial.choices)
     × RanBy true l.code l.grid l.parent 4 l.batch.numbers l.ends l.choices l.batch.result
-
-abbrev pub decreases-loop-m : goal.decreases-loop-m
-decreases-loop-m l = l.end - l.m

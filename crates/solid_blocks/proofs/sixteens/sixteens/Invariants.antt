@@ -18,6 +18,3 @@ invariant-loop-m l = AtChild true 16 4161 l.code l.grid below16 l.parent l.initi
     × (length l.choices ≡ length l.initial.choices)
     × (length l.below ≡ length l.initial.below)
     × RanBy true l.code l.grid l.parent 16 l.batch.numbers l.ends l.choices l.batch.result
-
-abbrev pub decreases-loop-m : goal.decreases-loop-m
-decreases-loop-m l = l.end - l.m

@@ -30,13 +30,6 @@ list_chunk-n-requires c = record {
   m_bound = (more (goal.at.list_chunk-n-requires c).In-loop-m, c.loop-m.invariant.2);
 }
 
-pub overflow_add-m : goal.overflow_add-m
-overflow_add-m c =
-    omega (arith, more (goal.at.overflow_add-m c).In-loop-m, few (goal.at.overflow_add-m c).Start)
-
-pub loop-m-smaller : goal.loop-m-smaller
-loop-m-smaller c = omega (arith, c.loop-m-test.true)
-
 pub loop-m-preserved : goal.loop-m-preserved
 loop-m-preserved c =
     (c.loop-m.invariant.0, omega (arith, c.loop-m-test.true), c.list_chunk-n.ensures)

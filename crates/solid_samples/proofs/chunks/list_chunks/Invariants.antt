@@ -6,6 +6,3 @@ use Rattle.solid_samples.proofs.chunks.list_chunks.Given as goal
 
 abbrev pub invariant-loop-m : goal.invariant-loop-m
 invariant-loop-m l = (l.end ≡ chunk_count l.parent) × (l.m ≤ l.end) × Listed l.grid l.parent l.picture l.ys l.zs l.places l.m l.n
-
-abbrev pub decreases-loop-m : goal.decreases-loop-m
-decreases-loop-m l = l.end - l.m

@@ -67,13 +67,6 @@ overflow_add-count c =
     let sum = chunks_sum c.loop-m.invariant.1 (more (goal.at.overflow_add-count c).In-loop-m) (chunks_few p.all).count c.settle_place-count.ensures.bound in
     omega (arith, sound_length p.all.sound, sum)
 
-pub overflow_add-m : goal.overflow_add-m
-overflow_add-m c =
-    omega (arith, more (goal.at.overflow_add-m c).In-loop-m, chunks_few c.requires.all)
-
-pub loop-m-smaller : goal.loop-m-smaller
-loop-m-smaller c = omega (arith, c.loop-m-test.true)
-
 pub loop-m-preserved : goal.loop-m-preserved
 loop-m-preserved c =
     let i = c.loop-m.invariant in

@@ -7,6 +7,3 @@ use Rattle.solid_samples.proofs.settle.settle_chunks.Given as goal
 
 abbrev pub invariant-loop-m : goal.invariant-loop-m
 invariant-loop-m l = (l.end ≡ chunk_count l.parent) × AtChunk l.code l.grid l.parent l.initial.picture l.picture l.count l.m
-
-abbrev pub decreases-loop-m : goal.decreases-loop-m
-decreases-loop-m l = l.end - l.m

@@ -65,15 +65,6 @@ overflow_add-count c =
     let sum = up_sum c.loop-x.invariant.place c.loop-x-test.true c.settle_lane-count.ensures.bound in
     omega (arith, sound_length c.requires.all.sound, sum)
 
-pub overflow_add-x : goal.overflow_add-x
-overflow_add-x c =
-    let p = c.requires.all in
-    let d = small true _ p.ready.fault in
-    omega (arith, c.loop-x-test.true, p.cell.xs)
-
-pub loop-x-smaller : goal.loop-x-smaller
-loop-x-smaller c = omega (arith, c.loop-x-test.true)
-
 pub loop-x-preserved : goal.loop-x-preserved
 loop-x-preserved c =
     let v = c.settle_lane-count in

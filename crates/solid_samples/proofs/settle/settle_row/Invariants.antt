@@ -7,6 +7,3 @@ use Rattle.solid_samples.proofs.settle.settle_row.Given as goal
 
 abbrev pub invariant-loop-x : goal.invariant-loop-x
 invariant-loop-x l = AtColumn true 1 4 1 l.code l.grid [] l.parent.x l.parent.xend l.y l.z l.initial.picture l.picture l.count l.x
-
-abbrev pub decreases-loop-x : goal.decreases-loop-x
-decreases-loop-x l = l.parent.xend - l.x

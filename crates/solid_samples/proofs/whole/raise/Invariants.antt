@@ -9,6 +9,3 @@ use Rattle.solid_samples.proofs.whole.raise.Given as goal
 
 abbrev pub invariant-loop-k : goal.invariant-loop-k
 invariant-loop-k l = (l.k ≤ lane_count) × Below 0 (λ j v. v ≡ with_sample (get_or l.before j 0) l.height (lane l.values j)) l.r l.k
-
-abbrev pub decreases-loop-k : goal.decreases-loop-k
-decreases-loop-k l = lane_count - l.k

@@ -72,13 +72,6 @@ overflow_add-count c =
     let sum = child_sum c.loop-m.invariant.0 512 (more (goal.at.overflow_add-count c).In-loop-m) (few (goal.at.overflow_add-count c).Start) c.visit_tile-count.ensures.bound in
     omega (arith, sound_length c.requires.tile.level.sound, sum)
 
-pub overflow_add-m : goal.overflow_add-m
-overflow_add-m c =
-    omega (arith, more (goal.at.overflow_add-m c).In-loop-m, few (goal.at.overflow_add-m c).Start)
-
-pub loop-m-smaller : goal.loop-m-smaller
-loop-m-smaller c = omega (arith, c.loop-m-test.true)
-
 pub loop-m-preserved : goal.loop-m-preserved
 loop-m-preserved c =
     let v = c.visit_tile-count in

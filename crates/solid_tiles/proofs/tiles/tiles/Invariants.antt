@@ -16,6 +16,3 @@ invariant-loop-m l = AtChild true 64 solid_bound l.whole l.grid below64 l.parent
     × (length l.third ≡ length l.initial.third)
     × (length l.choices ≡ length l.initial.choices)
     × (length l.below ≡ length l.initial.below)
-
-abbrev pub decreases-loop-m : goal.decreases-loop-m
-decreases-loop-m l = l.end - l.m

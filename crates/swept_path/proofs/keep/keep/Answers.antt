@@ -17,38 +17,35 @@ use Rattle.swept_path.proofs.KeepLaws.{KeepingAt, keep_begins, keep_drops, keep_
 use Rattle.swept_path.proofs.KeepLaws.{keep_none, keep_some}
 use borrow.Author.Rules.{rules}
 use Rattle.swept_path.proofs.keep.keep.Goals as goal
-use Rattle.swept_path.proofs.keep.keep.Goals.{then-range-lt0-2, else-range-lt0-2, In-loop-m, After-range_at-range}
+use Rattle.swept_path.proofs.keep.keep.Goals.{then-range-lt0-2, else-range-lt0-2, In-loop-k, After-range_at-range}
 
-room : (c : In-loop-m)
-    → c.loop-m.count < length c.loop-m.kept
+room : (c : In-loop-k)
+    → c.loop-k.count < length c.loop-k.kept
 room c =
-    let i = c.loop-m.invariant in
-    omega (arith, i.0.few, c.loop-m-test.true, c.requires.list, i.1)
+    let i = c.loop-k.invariant in
+    omega (arith, i.0.few, c.loop-k-test.true, c.requires.list, i.1)
 
-lists : (c : In-loop-m)
-    → (length c.args.from.now ≤ length c.loop-m.kept)
-lists c = omega (arith, c.requires.list, c.loop-m.invariant.1)
+lists : (c : In-loop-k)
+    → (length c.args.from.now ≤ length c.loop-k.kept)
+lists c = omega (arith, c.requires.list, c.loop-k.invariant.1)
 
-pub loop-m-init : goal.loop-m-init
-loop-m-init c = (keep_begins _, refl, refl)
-
-pub bounds-from-m : goal.bounds-from-m
-bounds-from-m c = c.loop-m-test.true
+pub loop-k-init : goal.loop-k-init
+loop-k-init c = (keep_begins _, refl, refl)
 
 pub offset_bounds-kept-count : goal.offset_bounds-kept-count
-offset_bounds-kept-count c = search (rules, room (goal.at.offset_bounds-kept-count c).In-loop-m)
+offset_bounds-kept-count c = search (rules, room (goal.at.offset_bounds-kept-count c).In-loop-k)
 
 pub bounds-kept-count : goal.bounds-kept-count
-bounds-kept-count c = room (goal.at.bounds-kept-count c).In-loop-m
+bounds-kept-count c = room (goal.at.bounds-kept-count c).In-loop-k
 
 pub range_at-range-requires : goal.range_at-range-requires
 range_at-range-requires c =
     let p = c.requires in
     record {
       runs = p.runs;
-      room = omega (arith, p.room, c.loop-m.invariant.2);
-      in_path = p.in_path c.loop-m.m c.loop-m-test.true;
-      box = p.box c.loop-m.m c.loop-m-test.true;
+      room = omega (arith, p.room, c.loop-k.invariant.2);
+      in_path = p.in_path c.loop-k.k-index c.loop-k-test.true;
+      box = p.box c.loop-k.k-index c.loop-k-test.true;
     }
 
 -- What the two tests say of the range.
@@ -67,79 +64,73 @@ low c t e =
 
 pub shape_of-kept-then-count-eq0 : goal.shape_of-kept-then-count-eq0
 shape_of-kept-then-count-eq0 c =
-    length-set c.loop-m.kept c.loop-m.count _ ∙ c.loop-m.invariant.1
+    length-set c.loop-k.kept c.loop-k.count _ ∙ c.loop-k.invariant.1
 
 pub shape_of-work-then-count-eq0 : goal.shape_of-work-then-count-eq0
 shape_of-work-then-count-eq0 c =
-    c.range_at-range.auto.work ∙ c.loop-m.invariant.2
+    c.range_at-range.auto.work ∙ c.loop-k.invariant.2
 
 pub returns-then-count-eq0 : goal.returns-then-count-eq0
 returns-then-count-eq0 c =
-    keep_first c.loop-m.count c.loop-m.m c.loop-m.invariant.0 c.loop-m-test.true (lists (goal.at.returns-then-count-eq0 c).In-loop-m)
+    keep_first c.loop-k.count c.loop-k.k-index c.loop-k.invariant.0 c.loop-k-test.true (lists (goal.at.returns-then-count-eq0 c).In-loop-k)
     c.range_at-range.ensures (high (goal.at.returns-then-count-eq0 c).After-range_at-range true c.if-range-lt0.true) c.if-count-eq0.true
 
 pub overflow_add-result : goal.overflow_add-result
-overflow_add-result c = omega (arith, room (goal.at.overflow_add-result c).In-loop-m)
+overflow_add-result c = omega (arith, room (goal.at.overflow_add-result c).In-loop-k)
 
 pub shape_of-kept-then-range-lt0 : goal.shape_of-kept-then-range-lt0
 shape_of-kept-then-range-lt0 c =
-    length-set c.loop-m.kept c.loop-m.count _ ∙ c.loop-m.invariant.1
+    length-set c.loop-k.kept c.loop-k.count _ ∙ c.loop-k.invariant.1
 
 pub shape_of-work-then-range-lt0 : goal.shape_of-work-then-range-lt0
 shape_of-work-then-range-lt0 c =
-    c.range_at-range.auto.work ∙ c.loop-m.invariant.2
+    c.range_at-range.auto.work ∙ c.loop-k.invariant.2
 
 pub returns-then-range-lt0 : goal.returns-then-range-lt0
 returns-then-range-lt0 c =
-    keep_stops c.loop-m.count c.loop-m.m c.loop-m.invariant.0 c.loop-m-test.true (lists (goal.at.returns-then-range-lt0 c).In-loop-m)
+    keep_stops c.loop-k.count c.loop-k.k-index c.loop-k.invariant.0 c.loop-k-test.true (lists (goal.at.returns-then-range-lt0 c).In-loop-k)
     c.range_at-range.ensures (high (goal.at.returns-then-range-lt0 c).After-range_at-range true c.if-range-lt0.true)
 
 pub overflow_add-count : goal.overflow_add-count
-overflow_add-count c = omega (arith, room (goal.at.overflow_add-count c).In-loop-m)
+overflow_add-count c = omega (arith, room (goal.at.overflow_add-count c).In-loop-k)
 
-pub overflow_add-m : goal.overflow_add-m
-overflow_add-m c = omega (arith, c.loop-m-test.true)
-
-pub loop-m-smaller : goal.loop-m-smaller
-loop-m-smaller c = omega (arith, c.loop-m-test.true)
-
-pub loop-m-preserved : goal.loop-m-preserved
-loop-m-preserved c =
+pub loop-k-preserved : goal.loop-k-preserved
+loop-k-preserved c =
     let a = c.args in
-    let next = set c.loop-m.kept c.loop-m.count (get_or a.from.now c.loop-m.m 0) in
+    let next = set c.loop-k.kept c.loop-k.count (get_or a.from.now c.loop-k.k-index 0) in
     let at : ℕ → Type 0 = λ n.
-    KeepingAt a.code.now (box_in a.bounds) (offsets_of a.path.now) a.from.now next n (c.loop-m.m + 1) in (
+    KeepingAt a.code.now (box_in a.bounds) (offsets_of a.path.now) a.from.now next n (c.loop-k.k-index + 1) in (
       elim c.if-range-lt0-2.branch [
         | then-range-lt0-2 w ↦
             subst at (sym w.count-is)
-            (keep_takes c.loop-m.count c.loop-m.m c.loop-m.invariant.0 c.loop-m-test.true (lists (goal.at.loop-m-preserved c).In-loop-m)
+            (keep_takes c.loop-k.count c.loop-k.k-index c.loop-k.invariant.0 c.loop-k-test.true (lists (goal.at.loop-k-preserved c).In-loop-k)
             c.range_at-range.ensures)
         | else-range-lt0-2 w ↦
             subst at (sym w.count-is)
-            (keep_drops c.loop-m.count c.loop-m.m c.loop-m.invariant.0 c.loop-m-test.true (lists (goal.at.loop-m-preserved c).In-loop-m)
-            c.range_at-range.ensures (low (goal.at.loop-m-preserved c).After-range_at-range false w.if-range-lt0-2.false))
+            (keep_drops c.loop-k.count c.loop-k.k-index c.loop-k.invariant.0 c.loop-k-test.true (lists (goal.at.loop-k-preserved c).In-loop-k)
+            c.range_at-range.ensures (low (goal.at.loop-k-preserved c).After-range_at-range false w.if-range-lt0-2.false))
       ],
-      length-set c.loop-m.kept c.loop-m.count _ ∙ c.loop-m.invariant.1,
-      c.range_at-range.auto.work ∙ c.loop-m.invariant.2,
+      length-set c.loop-k.kept c.loop-k.count _ ∙ c.loop-k.invariant.1,
+      c.range_at-range.auto.work ∙ c.loop-k.invariant.2,
     )
 
 pub shape_of-kept-then-count-eq0-2 : goal.shape_of-kept-then-count-eq0-2
-shape_of-kept-then-count-eq0-2 c = c.loop-m.invariant.1
+shape_of-kept-then-count-eq0-2 c = c.loop-k.invariant.1
 
 pub shape_of-work-then-count-eq0-2 : goal.shape_of-work-then-count-eq0-2
-shape_of-work-then-count-eq0-2 c = c.loop-m.invariant.2
+shape_of-work-then-count-eq0-2 c = c.loop-k.invariant.2
 
 pub returns-then-count-eq0-2 : goal.returns-then-count-eq0-2
 returns-then-count-eq0-2 c =
-    keep_none c.loop-m.count c.loop-m.m c.loop-m.invariant.0 c.loop-m-test.false c.if-count-eq0-2.true
+    keep_none c.loop-k.count c.loop-k.k-index c.loop-k.invariant.0 c.loop-k-test.false c.if-count-eq0-2.true
 
 pub shape_of-kept : goal.shape_of-kept
-shape_of-kept c = c.loop-m.invariant.1
+shape_of-kept c = c.loop-k.invariant.1
 
 pub shape_of-work : goal.shape_of-work
-shape_of-work c = c.loop-m.invariant.2
+shape_of-work c = c.loop-k.invariant.2
 
 pub returns : goal.returns
 returns c =
-    keep_some c.loop-m.count c.loop-m.m c.loop-m.invariant.0 c.loop-m-test.false c.if-count-eq0-2.false
-    (omega (arith, c.requires.list, c.loop-m.invariant.1))
+    keep_some c.loop-k.count c.loop-k.k-index c.loop-k.invariant.0 c.loop-k-test.false c.if-count-eq0-2.false
+    (omega (arith, c.requires.list, c.loop-k.invariant.1))

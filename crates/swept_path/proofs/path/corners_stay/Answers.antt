@@ -1,13 +1,11 @@
 -- The two axes, one after the other.
 use mathlib.Core.Path.{◌≡◌, ◌∙◌}
 use mathlib.Core.Bool.{false}
-use Rattle.picture.proofs.Answers.{stops, goes_on_lem, refused, passed}
+use Rattle.picture.proofs.Answers.{stops, goes_on_lem, refused_by, passed_by}
 use Rattle.picture.proofs.Grids.{accepted}
 use Rattle.picture.proofs.GridWords.{InWords}
 use Rattle.swept_rules.specs.Keeping.{ends_stay, corners_stay}
 use Rattle.swept_path.proofs.PathLaws.{Fit, for_ends, ends_read}
-use mathlib.Core.Path.{ap}
-use mathlib.Core.Bool.{not}
 use borrow.Author.Rules.{rules}
 use Rattle.swept_path.proofs.path.corners_stay.Goals as goal
 use Rattle.swept_path.proofs.path.corners_stay.Goals.{After-ends_stay, Start}
@@ -32,19 +30,20 @@ ends_stay-requires c =
     let a = accepted c.args.grid false c.requires in
     for_ends f.xorigin f.xstep _ a.sizes.width.least a.x_value
 
-pub returns-then-not-ends_stay : goal.returns-then-not-ends_stay
-unfolding corners_stay
-returns-then-not-ends_stay c = stops _ (refused _ (x-tested (goal.at.returns-then-not-ends_stay c).After-ends_stay) (ap not c.if-not-ends_stay.true))
-
-pub ends_stay-requires-2 : goal.ends_stay-requires-2
-ends_stay-requires-2 c =
-    let f = told (goal.at.ends_stay-requires-2 c).Start in
+pub ends_stay-requires-then-ends_stay : goal.ends_stay-requires-then-ends_stay
+ends_stay-requires-then-ends_stay c =
+    let f = told (goal.at.ends_stay-requires-then-ends_stay c).Start in
     let a = accepted c.args.grid false c.requires in
     for_ends f.yorigin f.ystep _ a.sizes.height.least a.y_value
 
-pub returns : goal.returns
+pub returns-then-ends_stay : goal.returns-then-ends_stay
 unfolding corners_stay
-returns c =
-    let f = told (goal.at.returns c).Start in
-    goes_on_lem (passed _ (x-tested (goal.at.returns c).After-ends_stay) (ap not c.if-not-ends_stay.false))
-    (c.ends_stay-2.ensures ∙ ends_read f.yorigin f.ystep _ (offset-told (goal.at.returns c).Start).y)
+returns-then-ends_stay c =
+    let f = told (goal.at.returns-then-ends_stay c).Start in
+    goes_on_lem (passed_by _ (x-tested (goal.at.returns-then-ends_stay c).After-ends_stay) c.if-ends_stay.true)
+    (c.ends_stay-then-ends_stay.ensures ∙ ends_read f.yorigin f.ystep _ (offset-told (goal.at.returns-then-ends_stay c).Start).y)
+
+pub returns-else-ends_stay : goal.returns-else-ends_stay
+unfolding corners_stay
+returns-else-ends_stay c =
+    c.if-ends_stay.false ∙ stops _ (refused_by _ (x-tested (goal.at.returns-else-ends_stay c).After-ends_stay) c.if-ends_stay.false)

@@ -5,12 +5,11 @@ use Prim.Native.Nat.{◌+◌, ◌<◌}
 use native.Mathlib.Omega.{arith}
 use lib.ListN.{length, drop}
 use Rattle.picture.specs.Shapes.{grid_in}
-use Rattle.picture.proofs.Answers.{stops, refused, passed}
+use Rattle.picture.proofs.Answers.{stops, refused_by, passed_by}
 use Rattle.swept_rules.specs.Swept.{offsets_of}
 use Rattle.swept_rules.specs.Keeping.{corners_stay, path_corners, position_at}
 use Rattle.swept_rules.proofs.Paths.{half}
 use Rattle.swept_path.proofs.PathLaws.{corners_next, corners_none}
-use mathlib.Core.Bool.{not}
 use Rattle.swept_path.proofs.path.path_stays.Goals as goal
 use Rattle.swept_path.proofs.path.path_stays.Goals.{After-corners_stay, In-loop-k}
 
@@ -45,20 +44,14 @@ corners_stay-requires c = c.requires
 
 pub returns-then-not-corners_stay : goal.returns-then-not-corners_stay
 returns-then-not-corners_stay c =
-    stops _ (refused _ (tested (goal.at.returns-then-not-corners_stay c).After-corners_stay) (ap not c.if-not-corners_stay.true)) ∙ sym (here (goal.at.returns-then-not-corners_stay c).In-loop-k)
-
-pub overflow_add-k : goal.overflow_add-k
-overflow_add-k c = omega (arith, c.loop-k-test.true)
-
-pub loop-k-smaller : goal.loop-k-smaller
-loop-k-smaller c = omega (arith, c.loop-k-test.true)
+    stops _ (refused_by _ (tested (goal.at.returns-then-not-corners_stay c).After-corners_stay) c.if-not-corners_stay.true) ∙ sym (here (goal.at.returns-then-not-corners_stay c).In-loop-k)
 
 pub loop-k-preserved : goal.loop-k-preserved
 loop-k-preserved c =
     let a = c.args in
     here (goal.at.loop-k-preserved c).In-loop-k
     ∙ ap (λ b. b && path_corners (grid_in a.grid false) (drop (c.loop-k.k + 1) (offsets_of a.path.now)))
-    (passed _ (tested (goal.at.loop-k-preserved c).After-corners_stay) (ap not c.if-not-corners_stay.false))
+    (passed_by _ (tested (goal.at.loop-k-preserved c).After-corners_stay) c.if-not-corners_stay.false)
 
 pub returns : goal.returns
 returns c =

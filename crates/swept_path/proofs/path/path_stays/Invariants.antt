@@ -1,7 +1,6 @@
 -- The positions, one after the other.
 use mathlib.Core.Path.{◌≡◌}
 use mathlib.Core.Bool.{false}
-use Prim.Native.Nat.{◌-◌}
 use lib.ListN.{drop}
 use Rattle.picture.specs.Shapes.{grid_in}
 use Rattle.swept_rules.specs.Swept.{offsets_of}
@@ -10,6 +9,3 @@ use Rattle.swept_path.proofs.path.path_stays.Given as goal
 
 abbrev pub invariant-loop-k : goal.invariant-loop-k
 invariant-loop-k l = path_corners (grid_in l.grid false) (offsets_of l.path) ≡ path_corners (grid_in l.grid false) (drop l.k (offsets_of l.path))
-
-abbrev pub decreases-loop-k : goal.decreases-loop-k
-decreases-loop-k l = l.end - l.k

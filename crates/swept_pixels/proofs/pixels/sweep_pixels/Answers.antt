@@ -1,11 +1,11 @@
 -- The pixels of the region, by their number.
 use mathlib.Core.Path.{◌∙◌}
-use Prim.Native.Nat.{◌≤◌, ◌<◌}
+use Prim.Native.Nat.{◌<◌}
 use native.Mathlib.Omega.{arith}
 use lib.ListN.{length}
 use Rattle.code.proofs.RunLaws.{fresh_slots}
 use Rattle.walk.specs.Children.{Parent, children_in}
-use Rattle.swept_pixels.proofs.PutLaws.{cell_parent, cell_few, draws_of, parts_begin, parts_next}
+use Rattle.swept_pixels.proofs.PutLaws.{cell_parent, draws_of, parts_begin, parts_next}
 use Rattle.swept_pixels.proofs.PutLaws.{parts_done}
 use Rattle.swept_pixels.proofs.SearchLaws.{agrees_part}
 use Rattle.swept_pixels.proofs.pixels.sweep_pixels.Goals as goal
@@ -16,16 +16,12 @@ parent c =
     let p = c.requires in
     cell_parent 1 c.args.cell.side p.on p.cell (omega arith) (omega arith) (omega arith)
 
-few : (c : Start) → length (children_in c.args.cell 1) ≤ 4096
-few c =
-    let p = c.requires in cell_few 1 c.args.cell.side p.on p.cell (omega arith) (omega arith) (omega arith) p.side
-
 more : (c : In-loop-m)
     → c.loop-m.m < length (children_in c.args.cell 1)
-more c = omega (arith, c.loop-m-test.true, c.child_count-end.ensures)
+more c = omega (arith, c.loop-m-test.true, c.child_count-m-end.ensures)
 
-pub child_count-end-requires : goal.child_count-end-requires
-child_count-end-requires c = parent (goal.at.child_count-end-requires c).Start
+pub child_count-m-end-requires : goal.child_count-m-end-requires
+child_count-m-end-requires c = parent (goal.at.child_count-m-end-requires c).Start
 
 pub loop-m-init : goal.loop-m-init
 loop-m-init c =
@@ -47,13 +43,6 @@ sweep_pixel-requires c =
       lent = c.loop-m.invariant.1;
     }
 
-pub overflow_add-m : goal.overflow_add-m
-overflow_add-m c =
-    omega (arith, more (goal.at.overflow_add-m c).In-loop-m, few (goal.at.overflow_add-m c).Start)
-
-pub loop-m-smaller : goal.loop-m-smaller
-loop-m-smaller c = omega (arith, c.loop-m-test.true)
-
 pub loop-m-preserved : goal.loop-m-preserved
 loop-m-preserved c =
     let v = c.sweep_pixel in
@@ -69,5 +58,5 @@ shape_of-picture c = c.loop-m.invariant.0.size
 
 pub returns : goal.returns
 returns c =
-    let e = c.child_count-end.ensures in
+    let e = c.child_count-m-end.ensures in
     parts_done c.args.cell 1 c.loop-m.m c.loop-m.invariant.0 (omega (arith, c.loop-m-test.false))

@@ -1,5 +1,4 @@
 -- The pixels of the region, by their number.
-use Prim.Native.Nat.{◌-◌}
 use lib.ListN.{drop}
 use Rattle.code.specs.Runs.{Lent}
 use Rattle.walk.specs.Cells.{region_in}
@@ -11,6 +10,3 @@ use Rattle.swept_pixels.proofs.pixels.sweep_pixels.Given as goal
 abbrev pub invariant-loop-m : goal.invariant-loop-m
 invariant-loop-m l = AtPart (Agrees l.code l.path l.grid l.list (region_in l.cell)) l.grid (region_in l.cell) (drop l.m (children_in l.cell 1)) l.initial.picture l.picture
     × Lent l.slots
-
-abbrev pub decreases-loop-m : goal.decreases-loop-m
-decreases-loop-m l = l.end - l.m

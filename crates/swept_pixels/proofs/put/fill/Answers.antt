@@ -1,10 +1,10 @@
 -- The pixels of the region, by their number.
 use mathlib.Core.Path.{◌∙◌}
-use Prim.Native.Nat.{◌≤◌, ◌<◌}
+use Prim.Native.Nat.{◌<◌}
 use native.Mathlib.Omega.{arith}
 use lib.ListN.{length}
 use Rattle.walk.specs.Children.{Parent, children_in}
-use Rattle.swept_pixels.proofs.PutLaws.{cell_parent, cell_few, draws_of, constant_part, parts_begin}
+use Rattle.swept_pixels.proofs.PutLaws.{cell_parent, draws_of, constant_part, parts_begin}
 use Rattle.swept_pixels.proofs.PutLaws.{parts_next, parts_done}
 use Rattle.swept_pixels.proofs.put.fill.Goals as goal
 use Rattle.swept_pixels.proofs.put.fill.Goals.{In-loop-m, Start}
@@ -14,44 +14,33 @@ parent c =
     let p = c.requires in
     cell_parent 1 c.args.cell.side p.on p.cell (omega arith) (omega arith) (omega arith)
 
-few : (c : Start) → length (children_in c.args.cell 1) ≤ 4096
-few c =
-    let p = c.requires in cell_few 1 c.args.cell.side p.on p.cell (omega arith) (omega arith) (omega arith) p.side
-
 more : (c : In-loop-m)
     → c.loop-m.m < length (children_in c.args.cell 1)
-more c = omega (arith, c.loop-m-test.true, c.child_count-end.ensures)
+more c = omega (arith, c.loop-m-test.true, c.child_count-m-end.ensures)
 
-pub child_count-end-requires : goal.child_count-end-requires
-child_count-end-requires c = parent (goal.at.child_count-end-requires c).Start
+pub child_count-m-end-requires : goal.child_count-m-end-requires
+child_count-m-end-requires c = parent (goal.at.child_count-m-end-requires c).Start
 
 pub loop-m-init : goal.loop-m-init
 loop-m-init c = parts_begin c.args.cell 1 (parent (goal.at.loop-m-init c).Start) c.requires.cell _
 
-pub child-pixel-requires : goal.child-pixel-requires
-child-pixel-requires c = record { parent = parent (goal.at.child-pixel-requires c).Start; more = more (goal.at.child-pixel-requires c).In-loop-m }
+pub child-requires : goal.child-requires
+child-requires c = record { parent = parent (goal.at.child-requires c).Start; more = more (goal.at.child-requires c).In-loop-m }
 
 pub put-requires : goal.put-requires
 put-requires c =
     let p = c.requires in
-    let h = c.child-pixel.ensures in
+    let h = c.child.ensures in
     record {
       on = record { fault = p.on.fault; size = c.loop-m.invariant.size ∙ p.on.size };
       cell = h.ok 1 c.args.grid p.cell;
       one = h.side;
     }
 
-pub overflow_add-m : goal.overflow_add-m
-overflow_add-m c =
-    omega (arith, more (goal.at.overflow_add-m c).In-loop-m, few (goal.at.overflow_add-m c).Start)
-
-pub loop-m-smaller : goal.loop-m-smaller
-loop-m-smaller c = omega (arith, c.loop-m-test.true)
-
 pub loop-m-preserved : goal.loop-m-preserved
 loop-m-preserved c =
     let v = c.put in
-    let h = c.child-pixel.ensures in
+    let h = c.child.ensures in
     let k = h.ok 1 c.args.grid c.requires.cell in
     parts_next c.args.cell 1 c.loop-m.m c.loop-m.invariant h
     (draws_of (constant_part c.requires.cell k h) v.ensures) v.auto.picture
@@ -61,5 +50,5 @@ shape_of-picture c = c.loop-m.invariant.size
 
 pub returns : goal.returns
 returns c =
-    let e = c.child_count-end.ensures in
+    let e = c.child_count-m-end.ensures in
     parts_done c.args.cell 1 c.loop-m.m c.loop-m.invariant (omega (arith, c.loop-m-test.false))

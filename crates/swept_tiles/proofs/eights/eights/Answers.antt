@@ -1,10 +1,10 @@
 -- The regions of side 8 in the tile, by their number.
 use mathlib.Core.Path.{refl, ◌∙◌}
-use Prim.Native.Nat.{◌≤◌, ◌<◌}
+use Prim.Native.Nat.{◌<◌}
 use native.Mathlib.Omega.{arith}
 use lib.ListN.{length}
 use Rattle.walk.specs.Children.{Parent, children_in}
-use Rattle.swept_pixels.proofs.PutLaws.{cell_parent, cell_few, draws_of, parts_begin, parts_next, parts_done}
+use Rattle.swept_pixels.proofs.PutLaws.{cell_parent, draws_of, parts_begin, parts_next, parts_done}
 use Rattle.swept_pixels.proofs.SearchLaws.{agrees_part}
 use Rattle.swept_tiles.proofs.eights.eights.Goals as goal
 use Rattle.swept_tiles.proofs.eights.eights.Goals.{In-loop-m, Start}
@@ -13,17 +13,12 @@ parent : (c : Start) → Parent c.args.tile 8
 parent c =
     let p = c.requires in cell_parent 8 8 p.on p.cell (omega arith) (omega arith) (omega (arith, p.side))
 
-few : (c : Start) → length (children_in c.args.tile 8) ≤ 4096
-few c =
-    let p = c.requires in
-    cell_few 8 8 p.on p.cell (omega arith) (omega arith) (omega (arith, p.side)) (omega arith)
-
 more : (c : In-loop-m)
     → c.loop-m.m < length (children_in c.args.tile 8)
-more c = omega (arith, c.loop-m-test.true, c.child_count-end.ensures)
+more c = omega (arith, c.loop-m-test.true, c.child_count-m-end.ensures)
 
-pub child_count-end-requires : goal.child_count-end-requires
-child_count-end-requires c = parent (goal.at.child_count-end-requires c).Start
+pub child_count-m-end-requires : goal.child_count-m-end-requires
+child_count-m-end-requires c = parent (goal.at.child_count-m-end-requires c).Start
 
 pub loop-m-init : goal.loop-m-init
 loop-m-init c =
@@ -47,13 +42,6 @@ visit_eight-requires c =
       marks = omega (arith, p.marks, i.2);
       words = omega (arith, p.words, i.3);
     }
-
-pub overflow_add-m : goal.overflow_add-m
-overflow_add-m c =
-    omega (arith, more (goal.at.overflow_add-m c).In-loop-m, few (goal.at.overflow_add-m c).Start)
-
-pub loop-m-smaller : goal.loop-m-smaller
-loop-m-smaller c = omega (arith, c.loop-m-test.true)
 
 pub loop-m-preserved : goal.loop-m-preserved
 loop-m-preserved c =
@@ -82,5 +70,5 @@ shape_of-second c = c.loop-m.invariant.3
 
 pub returns : goal.returns
 returns c =
-    let e = c.child_count-end.ensures in
+    let e = c.child_count-m-end.ensures in
     parts_done c.args.tile 8 c.loop-m.m c.loop-m.invariant.0 (omega (arith, c.loop-m-test.false))

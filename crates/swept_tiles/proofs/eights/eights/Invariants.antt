@@ -1,6 +1,5 @@
 -- The regions of side 8 in the tile, by their number.
 use mathlib.Core.Path.{◌≡◌}
-use Prim.Native.Nat.{◌-◌}
 use lib.ListN.{length, drop}
 use Rattle.walk.specs.Cells.{region_in}
 use Rattle.walk.specs.Children.{children_in}
@@ -13,6 +12,3 @@ invariant-loop-m l = AtPart (Agrees l.code l.path l.grid l.from (region_in l.til
     × (length l.kept ≡ length l.initial.kept)
     × (length l.work ≡ length l.initial.work)
     × (length l.second ≡ length l.initial.second)
-
-abbrev pub decreases-loop-m : goal.decreases-loop-m
-decreases-loop-m l = l.end - l.m

@@ -19,12 +19,6 @@ offset_bounds-list-k c = omega (arith, c.loop-k-test.true, c.requires.few)
 pub bounds-list-k : goal.bounds-list-k
 bounds-list-k c = omega (arith, c.loop-k-test.true, c.requires.room, c.loop-k.invariant.size)
 
-pub overflow_add-k : goal.overflow_add-k
-overflow_add-k c = omega (arith, c.loop-k-test.true, c.requires.few)
-
-pub loop-k-smaller : goal.loop-k-smaller
-loop-k-smaller c = omega (arith, c.loop-k-test.true)
-
 pub loop-k-preserved : goal.loop-k-preserved
 loop-k-preserved c =
     numbers_next c.loop-k.k c.loop-k.invariant c.loop-k-test.true c.requires.room

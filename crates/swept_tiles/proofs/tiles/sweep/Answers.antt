@@ -1,13 +1,13 @@
 -- The tiles of the picture, by their number.
 use mathlib.Core.Path.{◌≡◌, refl, ap, ◌∙◌}
 use mathlib.Core.Bool.{false}
-use Prim.Native.Nat.{◌*◌, ◌≤◌, ◌<◌}
+use Prim.Native.Nat.{◌*◌, ◌<◌}
 use native.Mathlib.Omega.{arith}
 use lib.ListN.{length}
 use Rattle.rules.specs.Drawings.{Region}
 use Rattle.walk.specs.Children.{Parent, children_in}
 use Rattle.walk.proofs.CellLaws.{small, first_in_lem}
-use Rattle.swept_pixels.proofs.PutLaws.{cell_parent, cell_few, draws_of, parts_begin, parts_next, parts_done}
+use Rattle.swept_pixels.proofs.PutLaws.{cell_parent, draws_of, parts_begin, parts_next, parts_done}
 use Rattle.swept_pixels.proofs.SearchLaws.{agrees_part}
 use Rattle.swept_tiles.proofs.TileLaws.{all_swept, sweep_again}
 use Rattle.swept_tiles.proofs.tiles.sweep.Goals as goal
@@ -20,13 +20,9 @@ parent : (c : After-cell_at-parent) → Parent c.cell_at-parent.result 64
 parent c =
     cell_parent 64 8 c.requires.on c.cell_at-parent.ensures.ok (omega arith) (omega arith) (side c)
 
-few : (c : After-cell_at-parent) → length (children_in c.cell_at-parent.result 64) ≤ 4096
-few c =
-    cell_few 64 8 c.requires.on c.cell_at-parent.ensures.ok (omega arith) (omega arith) (side c) (omega arith)
-
 more : (c : In-loop-m)
     → c.loop-m.m < length (children_in c.cell_at-parent.result 64)
-more c = omega (arith, c.loop-m-test.true, c.child_count-end.ensures)
+more c = omega (arith, c.loop-m-test.true, c.child_count-m-end.ensures)
 
 pub cell_at-parent-requires : goal.cell_at-parent-requires
 cell_at-parent-requires c =
@@ -38,8 +34,8 @@ cell_at-parent-requires c =
       few = omega arith;
     }
 
-pub child_count-end-requires : goal.child_count-end-requires
-child_count-end-requires c = parent (goal.at.child_count-end-requires c).After-cell_at-parent
+pub child_count-m-end-requires : goal.child_count-m-end-requires
+child_count-m-end-requires c = parent (goal.at.child_count-m-end-requires c).After-cell_at-parent
 
 pub loop-m-init : goal.loop-m-init
 loop-m-init c =
@@ -57,13 +53,6 @@ visit_tile-requires c =
       cell = h.ok 1 c.args.grid c.cell_at-parent.ensures.ok;
       side = h.side;
     }
-
-pub overflow_add-m : goal.overflow_add-m
-overflow_add-m c =
-    omega (arith, more (goal.at.overflow_add-m c).In-loop-m, few (goal.at.overflow_add-m c).After-cell_at-parent)
-
-pub loop-m-smaller : goal.loop-m-smaller
-loop-m-smaller c = omega (arith, c.loop-m-test.true)
 
 pub loop-m-preserved : goal.loop-m-preserved
 loop-m-preserved c =
@@ -102,7 +91,7 @@ shape_of-second c = c.loop-m.invariant.5
 pub returns : goal.returns
 returns c =
     let t = c.cell_at-parent in
-    let e = c.child_count-end.ensures in
+    let e = c.child_count-m-end.ensures in
     all_swept c.requires t.ensures.same
     (parts_done t.result 64 c.loop-m.m c.loop-m.invariant.0 (omega (arith, c.loop-m-test.false)))
     c.loop-m.invariant.0.size

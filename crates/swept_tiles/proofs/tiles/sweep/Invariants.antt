@@ -1,6 +1,5 @@
 -- The tiles of the picture, by their number.
 use mathlib.Core.Path.{◌≡◌}
-use Prim.Native.Nat.{◌-◌}
 use lib.ListN.{length, drop}
 use Rattle.walk.specs.Cells.{region_in}
 use Rattle.walk.specs.Children.{children_in}
@@ -16,6 +15,3 @@ invariant-loop-m l = AtPart (AllAgree l.whole l.path l.grid (region_in l.parent)
     × (length l.work ≡ length l.initial.work)
     × (length l.first ≡ length l.initial.first)
     × (length l.second ≡ length l.initial.second)
-
-abbrev pub decreases-loop-m : goal.decreases-loop-m
-decreases-loop-m l = l.end - l.m

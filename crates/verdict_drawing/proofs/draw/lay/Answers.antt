@@ -1,7 +1,7 @@
 -- The rectangle's ends, and the copy.
 use native.Mathlib.Omega.{arith}
 use Rattle.verdict_drawing.proofs.Numbering.{few_rows}
-use Rattle.verdict_drawing.proofs.Laying.{x_ends, y_ends, to_lay, laid_part}
+use Rattle.verdict_drawing.proofs.Laying.{least, x_ends, y_ends, to_lay, laid_part}
 use Rattle.verdict_drawing.proofs.draw.lay.Goals as goal
 
 pub overflow_mul-x : goal.overflow_mul-x
@@ -24,7 +24,7 @@ overflow_add-y c = omega (arith, few_rows c.requires.in_grid)
 
 pub copy_part-requires : goal.copy_part-requires
 copy_part-requires c =
-    let w = to_lay c.requires.in_grid (x_ends c.requires.in_grid c.lesser-xend.ensures) (y_ends c.requires.in_grid c.lesser-yend.ensures) _
+    let w = to_lay c.requires.in_grid (x_ends c.requires.in_grid (least _ _ c.min-xend.ensures)) (y_ends c.requires.in_grid (least _ _ c.min-yend.ensures)) _
     c.requires.picture_len in
     record {
       within = w.0;
@@ -34,5 +34,5 @@ copy_part-requires c =
 
 pub returns : goal.returns
 returns c =
-    laid_part c.requires.in_grid (x_ends c.requires.in_grid c.lesser-xend.ensures) (y_ends c.requires.in_grid c.lesser-yend.ensures)
+    laid_part c.requires.in_grid (x_ends c.requires.in_grid (least _ _ c.min-xend.ensures)) (y_ends c.requires.in_grid (least _ _ c.min-yend.ensures))
     c.args.drawn.now c.args.picture.now c.requires.picture_len c.requires.drawn_len c.copy_part.auto.picture c.copy_part.ensures

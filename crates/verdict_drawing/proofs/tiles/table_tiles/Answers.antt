@@ -25,8 +25,8 @@ in_grid : {whole : List ℕ} {grid : Grid} {q : Rectangle} {table b work first s
     → ForRect whole grid q table b work first second → InGrid grid q
 in_grid p = record { fault = p.lent.ready.fault; ok = p.rectangle }
 
-pub overflow_mul-end : goal.overflow_mul-end
-overflow_mul-end c = omega (arith, few_tiles (in_grid c.requires.rect))
+pub overflow_mul-k-end : goal.overflow_mul-k-end
+overflow_mul-k-end c = omega (arith, few_tiles (in_grid c.requires.rect))
 
 pub loop-k-init : goal.loop-k-init
 loop-k-init c =
@@ -41,7 +41,7 @@ loop-k-init c =
     )
 
 pub number_in-number-requires : goal.number_in-number-requires
-number_in-number-requires c = record { rectangle = in_grid c.requires.rect; more = c.loop-k-test.true }
+number_in-number-requires c = record { rectangle = in_grid c.requires.rect; more = omega (arith, c.loop-k-test.true) }
 
 pub table_tile-count-requires : goal.table_tile-count-requires
 table_tile-count-requires c =
@@ -72,16 +72,6 @@ overflow_add-count c =
     let w = c.requires.rect.lent.level.kept.kept.within in
     let k : c.loop-k.k ≤ 64 = omega (arith, f, t) in
     omega (arith, i.0.bound, c.table_tile-count.ensures.tile_shared.bound, w, mul-le-mul_right (flat_bound * length c.args.whole.now) k)
-
-pub overflow_add-k : goal.overflow_add-k
-overflow_add-k c =
-    let i = c.loop-k.invariant in
-    omega (arith, few_tiles (in_grid c.requires.rect), c.loop-k-test.true)
-
-pub loop-k-smaller : goal.loop-k-smaller
-loop-k-smaller c =
-    let i = c.loop-k.invariant in
-    omega (arith, c.loop-k-test.true)
 
 pub loop-k-preserved : goal.loop-k-preserved
 loop-k-preserved c =

@@ -1,7 +1,6 @@
 -- Tile by tile.
 use mathlib.Core.Path.{◌≡◌}
 use mathlib.Core.Bool.{false}
-use Prim.Native.Nat.{◌-◌}
 use lib.ListN.{length}
 use Rattle.sweep.specs.Chunks.{block_rows}
 use Rattle.picture.specs.Shapes.{grid_in}
@@ -17,6 +16,3 @@ invariant-loop-k l = AtTile l.whole l.grid (tiles_in (grid_in l.grid false) (rec
     × (length l.second ≡ length l.initial.second)
     × (length l.slots ≡ block_rows)
     × (length l.choices ≡ length l.initial.choices)
-
-abbrev pub decreases-loop-k : goal.decreases-loop-k
-decreases-loop-k l = l.end - l.k

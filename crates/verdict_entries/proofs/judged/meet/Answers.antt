@@ -14,9 +14,10 @@ pub bounds-table-entry_at : goal.bounds-table-entry_at
 bounds-table-entry_at c =
     omega (arith, c.entry_at.ensures, c.requires.size, c.requires.tile.more, few_tiles c.requires.tile.sized)
 
-pub returns-then-verdict-ne0 : goal.returns-then-verdict-ne0
-returns-then-verdict-ne0 c = met_known (λ e. c.if-verdict-ne0.true (sym (verdict_at _ _ _ c.entry_at.ensures) ∙ e))
+pub returns-then-table-entry_at : goal.returns-then-table-entry_at
+returns-then-table-entry_at c =
+    met_known (λ e. c.if-table-entry_at.true (sym (verdict_at _ _ _ c.entry_at.ensures) ∙ e ∙ sym c.from.ensures))
 
 pub returns : goal.returns
 returns c =
-    met_unknown (verdict_at _ _ _ c.entry_at.ensures ∙ c.if-verdict-ne0.false) c.write_entry.ensures
+    met_unknown (verdict_at _ _ _ c.entry_at.ensures ∙ c.if-table-entry_at.false ∙ c.from.ensures) c.write_entry.ensures

@@ -1,11 +1,7 @@
 -- From the first entry on.
-use Prim.Native.Nat.{◌-◌, ◌≤◌}
 use Rattle.rules.specs.Tapes.{read_tape}
 use Rattle.verdicts.proofs.EntryLaws.{EntriesSo}
 use Rattle.verdicts.proofs.entries.entries_ok.Given as goal
 
 abbrev pub invariant-loop-i : goal.invariant-loop-i
-invariant-loop-i l = (l.i ≤ 64) × EntriesSo (read_tape l.tape).tape l.table l.i
-
-abbrev pub decreases-loop-i : goal.decreases-loop-i
-decreases-loop-i l = 64 - l.i
+invariant-loop-i l = EntriesSo (read_tape l.tape).tape l.table l.i

@@ -13,9 +13,6 @@ flat c =
     small_product _ _ 512 512 (omega (arith, y, c.parts-rows.ensures))
     (omega (arith, x, c.parts-across.ensures))
 
-pub overflow_mul-result : goal.overflow_mul-result
-overflow_mul-result c = omega (arith, flat c)
-
 pub overflow_mul-result-2 : goal.overflow_mul-result-2
 overflow_mul-result-2 c =
     let p = c.requires in

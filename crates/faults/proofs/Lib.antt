@@ -1,0 +1,2 @@
+-- No fault has the number 0.
+pub mod NumberLaws

@@ -1,0 +1,2 @@
+-- What packing a list leaves of an output.
+pub mod Packed
