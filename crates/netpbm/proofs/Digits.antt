@@ -7,8 +7,6 @@ use native.Mathlib.Nat.{pow-succ'}
 use native.Mathlib.Omega.{arith}
 use lib.ListN.{length, length-append}
 use borrow.Author.Tests.{lt-ltb, le-ltb}
-use Rattle.std.proofs.lemmas.Fmt.{decimal_from_appends, length-decimal-le, decimal_nonempty}
-use Rattle.std.specs.Fmt.{decimal as decimal_of}
 use Rattle.rules.specs.Pictures.{digits_from, decimal}
 use Rattle.rules.specs.Pictures.{numeral}
 
@@ -37,6 +35,24 @@ enough (suc l) (suc m) v f h =
               ∙ sym (more (suc l) v (omega arith))
         ]
 
+-- A number of 64 bits: what its last digit leaves.
+pub digit : (v : ℕ) → v < 10 → numeral v ≡ (48 + v) ∷ []
+digit v h = last 19 v h
+
+pub digits : (v : ℕ) → 10 ≤ v → v < 10 ^ 20 → numeral v ≡ numeral (v / 10) ++ ((48 + v % 10) ∷ [])
+digits v h k =
+    more 19 v h ∙ ap (λ s. s ++ ((48 + v % 10) ∷ [])) (sym (enough 18 19 (v / 10) (omega arith) (omega arith)))
+
+pub length_digits : (v : ℕ) → 10 ≤ v → v < 10 ^ 20 → length (numeral v) ≡ length (numeral (v / 10)) + 1
+length_digits v h k = ap length (digits v h k) ∙ length-append (numeral (v / 10)) ((48 + v % 10) ∷ [])
+
+pub least_length : (v : ℕ) → v < 10 ^ 20 → 1 ≤ length (numeral v)
+least_length v h =
+    elim (dec_lt v 10) [
+      | yes k ↦ omega (arith, ap length (digit v k))
+      | no k ↦ omega (arith, length_digits v (omega arith) h)
+    ]
+
 most : (l v : ℕ) → length (digits_from l v) ≤ l
 unfolding digits_from
 most zero v = omega arith
@@ -52,16 +68,6 @@ most (suc l) v = by_size (most l (v / 10))
 
 pub most_length : (v : ℕ) → length (numeral v) ≤ 20
 most_length v = most 20 v
-
--- The digits of a number of 64 bits are those that std writes.
-pub numeral_is : (v : ℕ) → v < 2 ^ 64 → decimal_of v ≡ numeral v
-numeral_is v h =
-    sym
-    (decimal_from_appends digits_from (record { one = last; more = more }) 20 v h
-    (length-decimal-le 20 v (omega arith) (omega arith) h))
-
-pub some_digit : (v : ℕ) → v < 2 ^ 64 → 1 ≤ length (numeral v)
-some_digit v h = rw (numeral_is v h) at (decimal_nonempty v h)
 
 -- A file's sizes have room for 5 digits.
 pub as_size : (v : ℕ) → v < 1000 → numeral v ≡ decimal v

@@ -4,7 +4,7 @@ use mathlib.Core.List.{List, [], ◌∷◌, ◌++◌, append_assoc, append-nil}
 use Prim.Native.Nat.{ℕ, ◌+◌, ◌<◌, ◌≤◌}
 use native.Mathlib.Numerals.{add-one}
 use native.Mathlib.Omega.{arith}
-use lib.ListN.{length, take, drop, set, length-set, length-append, take-append-drop}
+use lib.ListN.{length, get_or, take, drop, set, length-set, length-append, take-append-drop}
 use lib.Seq.{take-suc-set, take-length, drop-drop, drop-set-lt}
 use borrow.Rule.Slice.PartMut.{put_mid}
 use Rattle.std.proofs.Common.{◌-◌, rules}
@@ -14,6 +14,10 @@ use Rattle.netpbm.specs.Appending.{Appends}
 pub nothing : (o : List ℕ) (at : ℕ) → Appends o at [] o at
 nothing o at = record { next = omega arith; front = sym (append-nil (take at o)); size = refl; rest = refl }
 
+pub nothing_of : (o s : List ℕ) (at : ℕ) → length s ≡ 0 → Appends o at s o at
+nothing_of o [] at h = nothing o at
+nothing_of o (v ∷ s) at h = absurd (omega arith)
+
 pub one : (o : List ℕ) (at v : ℕ) → at < length o → Appends o at (v ∷ []) (set o at v) (at + 1)
 one o at v h =
     record {
@@ -22,6 +26,12 @@ one o at v h =
       size = length-set o at v;
       rest = drop-set-lt (at + 1) o at v (omega arith);
     }
+
+pub one_of : (o s : List ℕ) (at : ℕ) → length s ≡ 1 → at + length s ≤ length o
+    → Appends o at s (set o at (get_or s 0 0)) (at + 1)
+one_of o [] at h k = absurd (omega arith)
+one_of o (v ∷ []) at h k = one o at v (omega arith)
+one_of o (v ∷ (w ∷ s)) at h k = absurd (omega arith)
 
 -- What is as it was from b on, is so from further on.
 behind : (b k : ℕ) (o o' : List ℕ) → drop b o' ≡ drop b o → drop (b + k) o' ≡ drop (b + k) o

@@ -1,11 +1,17 @@
--- The text has as many digits as there are.
-use Rattle.std.proofs.Common.{◌≡◌, ap, ◌∙◌, length, arith}
-use Rattle.rules.specs.Pictures.{numeral}
-use Rattle.netpbm.proofs.Digits.{numeral_is, some_digit, most_length}
+-- `decimal::number_length` meets its contract. The invariant of its loop: the digits counted and those of the rest are
+-- those of the number and one more. The measure is the rest. Assumes nothing.
+use mathlib.Core.Path.{ap}
+use native.Mathlib.Omega.{arith}
+use lib.ListN.{length}
+use Rattle.netpbm.proofs.Digits.{digit, length_digits, most_length}
 use Rattle.netpbm.proofs.decimal.number_length.Goals as goal
+
+pub overflow_add-digits : goal.overflow_add-digits
+overflow_add-digits c = omega (arith, most_length c.args.v)
+
+pub loop-rest-preserved : goal.loop-rest-preserved
+loop-rest-preserved c = omega (arith, length_digits c.loop-rest.rest (omega arith) (omega arith))
 
 pub returns : goal.returns
 returns c =
-    let v = c.args.v in
-    let e : length c.format.result.now ≡ length (numeral v) = ap length (c.format.ensures.text ∙ numeral_is v c.ranges.v.fits) in
-    (e, omega (arith, e, some_digit v c.ranges.v.fits), omega (arith, e, most_length v))
+    omega (arith, ap length (digit c.loop-rest.rest (omega arith)), most_length c.args.v)
