@@ -1,7 +1,7 @@
 -- The two ends of a call, over any list of lines: refused with all as it came, or done.
 use mathlib.Core.Path.{◌≡◌, refl, sym, ap, ◌∙◌}
 use mathlib.Core.Bool.{Bool, true, false, ◌&&◌}
-use mathlib.Core.List.{List, [], ◌∷◌}
+use mathlib.Core.List.{List, [], ◌∷◌, ◌++◌}
 use Prim.Native.Nat.{ℕ, zero, suc}
 use native.Mathlib.Omega.{arith}
 use lib.Dec.{eqb, leb}
@@ -9,10 +9,11 @@ use lib.ListN.{get_or}
 use borrow.Author.Tests.{ne_eqb, eq-eqb}
 use Rattle.rules.specs.Values.{pick, first_fault}
 use Rattle.rules.specs.Tapes.{place_of, read_tape}
-use Rattle.rules.proofs.Lines.{this_line}
+use Rattle.rules.proofs.Lines.{this_line, first_here}
 use Rattle.rules.proofs.Places.{tape_placed}
 use Rattle.answers.specs.declared.Answer.{Answer}
 use Rattle.answers.specs.Says.{Answered, written, checked_by}
+use Rattle.answers.proofs.LineLaws.{in_stages}
 
 abbrev pub answer : ℕ → ℕ → ℕ → Answer
 answer n p c = record { number = n; place = p; count = c }
@@ -79,3 +80,24 @@ pub done_by_lem : (lines : List ℕ) {c k p : ℕ} {r : Answer} → r ≡ answer
 done_by_lem lines {p = p} e z q =
     let y = eq-eqb (first_fault lines) 0 z in
     rw e (record { number = sym z; place = ap (λ n. place_of n p) (sym z); count = rw y q })
+
+-- Checks in stages, by the answers that they come to: those of the first stage, and those of a next one, for which the
+-- number of the stages before stands for all of their lines. `Chains` has the same of the results of checks.
+pub first_stage : (s : List ℕ) {found lines : List ℕ} {p f : ℕ} {r : Answer} → r ≡ answer f p 0
+    → f ≡ first_fault found → found ≡ lines → p ≡ (read_tape s).place → r ≡ checked_by lines s
+first_stage s e h k q = rw (e, h, k, q)
+
+pub next_stage : (before s : List ℕ) {found after : List ℕ} {f : ℕ} {q r : Answer} → q ≡ checked_by before s
+    → r ≡ answer f q.place 0 → f ≡ first_fault (q.number ∷ found) → found ≡ after
+    → r ≡ checked_by (before ++ after) s
+next_stage before s {found} {after} e h k i =
+    first_stage s h (k ∙ ap (λ (a : Answer). first_fault (a.number ∷ found)) e ∙ sym (in_stages before found))
+    (ap (λ l. before ++ l) i) (ap (λ (a : Answer). a.place) e)
+
+-- Where a stage refuses, its answer is the call's: the lines behind it are not tested.
+pub stage_refuses : (before after s : List ℕ) {r : Answer} → r ≡ checked_by before s → (r.number ≡ 0 → ⊥)
+    → r ≡ checked_by (before ++ after) s
+stage_refuses before after s e h =
+    e
+    ∙ ap (λ n. answer n (read_tape s).place 0)
+    (sym (in_stages before after ∙ first_here (first_fault before) (first_fault after) (some_line before s e h)))

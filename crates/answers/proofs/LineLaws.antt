@@ -1,4 +1,4 @@
--- The checks of a call: a search through its lines, and the length of a picture.
+-- The checks of a call: the first of its lines that holds, and the length of a picture.
 use mathlib.Core.Path.{◌≡◌, refl, sym, ap, ◌∙◌}
 use mathlib.Core.Bool.{Bool, true, false, not}
 use mathlib.Core.List.{List, [], ◌∷◌, ◌++◌}

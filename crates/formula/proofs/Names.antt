@@ -47,7 +47,7 @@ mode_no text n j w r f g = record { stops = λ d. by d (ltb j (length text)) ref
         let h = ltb-false j (length text) e in
         mode_ends text n j d w r (omega (arith, r.within)) g
 
-no_letter : (text : List ℕ) (n m b : ℕ) (p : Spelling) (w : Mode) → ModeRead text n m (spelling p) → Spells p b w
+pub no_letter : (text : List ℕ) (n m b : ℕ) (p : Spelling) (w : Mode) → ModeRead text n m (spelling p) → Spells p b w
     → NotHere text m b → BreaksIn text n m
 no_letter text n m b p w h s f =
     mode_no text n m (spelling p) h (λ l. s.stops (get_or text m 0) (f.other l)) (λ l k. refl)
@@ -55,7 +55,7 @@ no_letter text n m b p w h s f =
 closed_at : (text : List ℕ) (n b : ℕ) → Here text n b → eqb b 40 ≡ false → eqb (get_or text n 0) 40 ≡ false
 closed_at text n b h e = ap (λ c. eqb c 40) h.byte ∙ e
 
-next_letter : (text : List ℕ) (n m b : ℕ) (p : Spelling) (w : Mode) → ModeRead text n m (spelling p)
+pub next_letter : (text : List ℕ) (n m b : ℕ) (p : Spelling) (w : Mode) → ModeRead text n m (spelling p)
     → Spells p b w → Here text m b → ModeRead text n (m + 1) w
 next_letter text n m b p w r s h =
     rw (add-one m)

@@ -94,7 +94,7 @@ module _ (text : List ℕ) (d slot n : ℕ) (s s₁ : Sheet) where
           paid = g.paid;
         }
 
-    product_joined : (b : Binary) (s₂ s₃ : Sheet) (r : ℕ) → ProductJoinAt text l b
+    pub product_joined : (b : Binary) (s₂ s₃ : Sheet) (r : ℕ) → ProductJoinAt text l b
         → Got (SignedRead text (l + 1) d) text (l + 1) (slot + 1) s₁ s₂ r → Pushed s₂ (kind.Binary b) slot s₃
         → Got (ProductUpTo text n d) text n slot s s₃ r
     product_joined b s₂ s₃ r j h e =

@@ -89,7 +89,7 @@ module _ (s v o : List ℕ) where
 
   module _ (c d : Counts) (one : Accepts c (read_tape s)) (two : Accepts d (read_tape v)) where
     -- The lines that are left, by the counts of two accepted tapes.
-    lines_found : first_fault
+    pub lines_found : first_fault
         (limit_line c.clauses d.clauses c.slots d.slots ∷ (length_line c.clauses d.clauses (length o) ∷ []))
         ≡ merge_fault s v (length o)
     lines_found =

@@ -191,12 +191,14 @@ filled_more p m q b c d k n =
     rw (← replicate-append-replicate m q true)
     (marked_more p (replicate m true) (replicate q true) b c d k (rw l at n))
 
-fill_byte : (at n : ℕ) (b c : List ℕ) → at + n < length c → Marked (8 * at) (replicate (8 * n) true) b c
-    → Marked (8 * at) (replicate (8 * (n + 1)) true) b (set c (at + n) 255)
-fill_byte at n b c o k =
-    let p : 8 * (at + n) ≡ 8 * at + 8 * n = omega arith in
-    let q : 8 * (n + 1) ≡ 8 * n + 8 = omega arith in
-    rw q (filled_more (8 * at) (8 * n) 8 b c (set c (at + n) 255) k (rw p at (marked_whole c (at + n) o)))
+pub fill_byte : (at i : ℕ) (b c : List ℕ) → at ≤ i → i < length c → Marked (8 * at) (replicate (8 * (i - at)) true) b c
+    → Marked (8 * at) (replicate (8 * (i + 1 - at)) true) b (set c i 255)
+fill_byte at i b c l o k =
+    let p : 8 * i ≡ 8 * at + 8 * (i - at) = omega arith in
+    let q : 8 * (i + 1 - at) ≡ 8 * (i - at) + 8 = omega arith in
+    rw q
+    (filled_more (8 * at) (8 * (i - at)) 8 b c (set c i 255) k
+    (rw p at (marked_whole c i o)))
 
 -- Whole bytes, lent as a part.
 pub fill_bytes : (at n : ℕ) (b : List ℕ) → at + n ≤ length b
@@ -205,8 +207,15 @@ fill_bytes at zero b l = subst (λ c. Marked (8 * at) [] b c) (sym (take-append-
 fill_bytes at (suc n) b l =
     let f = put_mid at n b (replicate n 255) in
     let long : length f ≡ length b = search (rules, places) in
+    let p : n ≡ at + n - at = omega arith in
+    let q : at + n + 1 - at ≡ n + 1 = omega arith in
+    let k : Marked (8 * at) (replicate (8 * (at + n - at)) true) b f =
+    subst (λ i. Marked (8 * at) (replicate (8 * i) true) b f) p (fill_bytes at n b (omega arith)) in
+    let one : Marked (8 * at) (replicate (8 * (n + 1)) true) b (set f (at + n) 255) =
+    subst (λ i. Marked (8 * at) (replicate (8 * i) true) b (set f (at + n) 255)) q
+    (fill_byte at (at + n) b f (omega arith) (omega arith) k) in
     subst (λ i. Marked (8 * at) (replicate (8 * i) true) b (put_mid at i b (replicate i 255))) (add-one n)
-    (rw more (fill_byte at n b f (omega arith) (fill_bytes at n b (omega arith))))
+    (rw more one)
   where
     more : put_mid at (n + 1) b (replicate (n + 1) 255) ≡ set (put_mid at n b (replicate n 255)) (at + n) 255
     more =

@@ -53,6 +53,12 @@ module _ (p : ℕ) (s : List ℕ) (grid : Grid) (m o w : List ℕ) where
       let k = add_order p s (grid_in grid false) (plate m o) (length w) in
       record { length_line_lem = k.memory; places_line = k.places; clause = clause_of_place s (plate m o) }
 
+  -- The same, by the line's number.
+  module _ (size : length m ≡ plate_size) (clear : (places_fault (places_of m)).number ≡ 0) {f : ℕ}
+      (line : f ≡ when (not (is_free p m)) 22) (z : f ≡ 0) where
+    pub add_in_plate : p < places
+    add_in_plate = place_free p m (sym z ∙ line)
+
   module _ (k : MemoryChecked m (answer 0 0 0)) where
     size : length m ≡ plate_size
     size = memory_size m k

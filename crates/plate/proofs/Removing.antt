@@ -53,6 +53,12 @@ module _ (p : ℕ) (grid : Grid) (m o w : List ℕ) where
       let k = remove_order p (grid_in grid false) (plate m o) (length w) in
       record { length_line_lem = k.memory; places_line = k.places; clause = λ n. refl }
 
+  -- The same, by the line's number.
+  module _ (size : length m ≡ plate_size) (clear : (places_fault (places_of m)).number ≡ 0) {f : ℕ}
+      (line : f ≡ when (not (is_taken p m)) 22) (z : f ≡ 0) where
+    pub remove_in_plate : p < places
+    remove_in_plate = place_taken p m (sym z ∙ line)
+
   module _ (k : MemoryChecked m (answer 0 0 0)) where
     size : length m ≡ plate_size
     size = memory_size m k

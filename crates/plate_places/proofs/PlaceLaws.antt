@@ -33,11 +33,11 @@ zero_told b r h =
     same_from_decides r (all_zero b) h (Decides-by_and (λ x. eqb x 0) (λ x. x ≡ 0) all_zero (λ x. Decides-eqb x 0) refl (λ _ _. refl) b)
 
 -- The tape of a place.
-tape_within : (b : List ℕ) (n : ℕ) → n ≡ 8 + 10 * word 4 b → n ≤ length b → TapeEnd b n
+pub tape_within : (b : List ℕ) (n : ℕ) → n ≡ 8 + 10 * word 4 b → n ≤ length b → TapeEnd b n
 unfolding tape_in
 tape_within b n e l = record { within = l; bytes = ap (λ i. take i b) e }
 
-tape_past : (b : List ℕ) (n : ℕ) → n ≡ 8 + 10 * word 4 b → length b < n → TapeEnd b (length b)
+pub tape_past : (b : List ℕ) (n : ℕ) → n ≡ 8 + 10 * word 4 b → length b < n → TapeEnd b (length b)
 unfolding tape_in
 tape_past b n e l =
     record {

@@ -39,6 +39,9 @@ pub constant_is : (s : List ℕ) (i v : ℕ) → v ≡ word i s + 65536 * word (
 unfolding signed4
 constant_is s i v e = cast_bits v ∙ ap signed_of e
 
+pub word_is : (s : List ℕ) (i a b : ℕ) → a ≡ get_or s i 0 → b ≡ get_or s (i + 1) 0 → a + 256 * b ≡ word i s
+word_is s i a b p q = rw (p, q, add-one)
+
 pub four_bytes : (s : List ℕ) (i : ℕ)
     → get_or s i 0 + get_or s (i + 1) 0 * 256 + get_or s (i + 2) 0 * 65536 + get_or s (i + 3) 0 * 16777216
     ≡ word i s + 65536 * word (i + 2) s

@@ -1,4 +1,4 @@
--- The loop over the children of a cell by their number: `while m < n { let c = child(parent, side, m); .. m += 1; }`.
+-- The loop over the children of a cell by their number: `for m in 0..n { let c = child(parent, side, m); .. }`.
 use mathlib.Core.Path.{◌≡◌, refl, ◌∙◌}
 use mathlib.Core.Bool.{Bool}
 use mathlib.Core.List.{List}
