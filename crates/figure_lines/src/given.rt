@@ -1,5 +1,6 @@
 // What the calls are lent.
 ghost use Rattle.std.specs.Prelude.{◌≡◌, length, replicate};
+ghost use Rattle.rules.specs.Drawings.{work_limit};
 ghost use Rattle.figure_lines.specs.Packed.{packed_onto};
 
 use crate::say;
@@ -52,7 +53,7 @@ pub fn filled<T: Copy, const N: usize>(value: T) -> [T; N]
 
 // A work buffer of the least length, which is not clear.
 pub fn work() -> [u8; WORK_LIMIT]
-    ensures { WORK_LIMIT ≡ length result }
+    ensures { work_limit ≡ length result }
 {
     filled(255)
 }

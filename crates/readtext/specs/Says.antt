@@ -1,6 +1,7 @@
 -- What the program answers to a text: the bytes of its tape, or the line of its refusal, and no other byte; then its
 -- last word, the length of that.
 use Rattle.std.specs.Prelude.{◌≡◌, Bool, List, [], ◌∷◌, ◌++◌, ℕ, eqb, ltb, true, false, length}
+use Rattle.std.specs.Borrow.{MutBor}
 use Rattle.rules.specs.Values.{pick}
 use Rattle.program_rules.specs.Program.{count_line, refused_line}
 use Rattle.formula_rules.specs.FormulaReader.{reader}
@@ -32,6 +33,12 @@ bytes_in (Part text) = text.now
 abbrev pub is_whole : Input → Bool
 is_whole (Whole text) = true
 is_whole (Part text) = false
+
+-- What was read begins where the room begins that was lent for it. While it borrows from the room, no clause can name
+-- what the room holds: so this says where the bytes stand.
+abbrev pub BeginsAt : Input → MutBor (List ℕ) → Type 0
+BeginsAt (Whole text) room = text.ref_ptr ≡ room.ref_ptr
+BeginsAt (Part text) room = text.ref_ptr ≡ room.ref_ptr
 
 abbrev pub IfWhole : Input → Type 0 → Type 0
 IfWhole (Whole text) P = P
